@@ -14,7 +14,7 @@ use Rattle.script_words.specs.Naming.{line_of}
 use Rattle.script_words.specs.Rows.{is_hex}
 use Rattle.script_words.specs.Saying.{HasEventBytes, IsEvent, line_words}
 use Rattle.script_words.specs.Spelling.{line_text}
-use Rattle.script_words.specs.Splitting.{first_words}
+use Rattle.script_words.specs.Splitting.{words_in}
 use Rattle.script_words.specs.Values.{LineView}
 use Rattle.law_scripts.proofs.LineOfLemmas.{line-says}
 use Rattle.law_scripts.proofs.LineTextLemmas.{free-text, line-read, line-words, noted-words}
@@ -62,9 +62,9 @@ not-none : (words : List (List ℕ)) (line_is : LineView) → words ≡ line_wor
 not-none words line_is is none = absurd (cc (sym is ∙ none))
 
 record-is : (image : List ℕ) (next count size : ℕ) (e : EventView) (first : List ℕ) → IsEvent e
-    → first_words first ≡ line_words (line_of next e) → IsRecord image (going next count size) first e
+    → words_in first ≡ line_words (line_of next e) → IsRecord image (going next count size) first e
 record-is image next count size e first event words = record {
-  words = not-none (first_words first) (line_of next e) words;
+  words = not-none (words_in first) (line_of next e) words;
   going = refl;
   gives = ap (words_step image next) words ∙ words-give image next e event;
 }
@@ -79,7 +79,7 @@ comment-gives image s n note text es free all = (
 )
 
 event-gives : (image : List ℕ) (next count size : ℕ) (e : EventView) (first text : List ℕ) (es : List EventView)
-    → IsInner e → first_words first ≡ line_words (line_of next e) → is_free 10 first ≡ true
+    → IsInner e → words_in first ≡ line_words (line_of next e) → is_free 10 first ≡ true
     → HasRoomFor (going next count size) e → GivesAll image (behind (going next count size) e) text es
     → GivesAll image (going next count size) (line first ++ text) (e ∷ es)
 event-gives image next count size e first text es inner words free room all = (
@@ -162,10 +162,10 @@ read-back image es inside bytes within =
 pub same-ok : {E : Type 0} (es fs : List EventView) → ◌≡◌ {A = Result (List EventView) E} (Ok es) (Ok fs) → es ≡ fs
 same-ok es fs same = cc same
 
-same-line : {E : Type 0} (one other : LineView) → ◌≡◌ {A = Result LineView E} (Ok one) (Ok other) → one ≡ other
+pub same-line : {E : Type 0} (one other : LineView) → ◌≡◌ {A = Result LineView E} (Ok one) (Ok other) → one ≡ other
 same-line one other same = cc same
 
-same-some : (e f : EventView) → Some e ≡ Some f → e ≡ f
+pub same-some : (e f : EventView) → Some e ≡ Some f → e ≡ f
 same-some e f same = cc same
 
 -- events with one line are the same
@@ -177,7 +177,7 @@ one-line next e f first second same =
     let lines : line_of next e ≡ line_of next f =
     same-line (line_of next e) (line_of next f)
     (sym (line-read (line_of next e) says.listed says.is)
-    ∙ ap (λ t. line_in (first_words t)) same
+    ∙ ap (λ t. line_in (words_in t)) same
     ∙ line-read (line_of next f) other.listed other.is) in
     same-some e f (sym (says.gives []) ∙ ap (λ (l : LineView). made l.row l.values (unwrap_or l.token next) []) lines
     ∙ other.gives [])

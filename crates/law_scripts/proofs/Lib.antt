@@ -12,3 +12,6 @@ mod TableLemmas
 mod FaultLemmas
 mod SizeLemmas
 mod NamedLineLemmas
+mod SayingLemmas
+mod TokenLemmas
+mod LimitLemmas

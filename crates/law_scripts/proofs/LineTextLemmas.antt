@@ -1,13 +1,12 @@
 -- The words of a line that is spelled are those that were spelled.
-use Rattle.std.proofs.Common.{◌≡◌, ◌≢◌, ℕ, zero, suc, ◌+◌, ◌^◌, ◌<◌, ◌≤◌, ◌==◌, Bool, true, false, List, [], ◌∷◌, ◌++◌, length, take, get_or, Option, Some, None, refl, sym, ap, ◌∙◌, arith, decimal, append_assoc, length-append}
+use Rattle.std.proofs.Common.{◌≡◌, ◌≢◌, ℕ, zero, suc, ◌+◌, ◌^◌, ◌<◌, ◌≤◌, ◌==◌, Bool, true, false, List, [], ◌∷◌, ◌++◌, length, get_or, Option, Some, None, refl, sym, ap, ◌∙◌, arith, decimal, append_assoc}
 use Rattle.std.specs.Prelude.{Ok, if◌then◌else◌, nat_le, codes}
 use Rattle.script_words.specs.Finding.{line_in}
 use Rattle.law_scripts.specs.Listed.{is_listed}
 use Rattle.law_scripts.proofs.TokenBackLemmas.{line-back}
 use Rattle.std.specs.List.{list_all}
-use Rattle.std.proofs.lemmas.Bool.{and_parts, eqb-true, leb-true, ne_eqb}
+use Rattle.std.proofs.lemmas.Bool.{and_parts, leb-true, ne_eqb}
 use Rattle.std.proofs.lemmas.Grind.{flat_map-append}
-use Rattle.std.proofs.lemmas.List.{take_all}
 use Rattle.hex.specs.Hex.{encode_lower, encode_with}
 use Rattle.part_table.specs.Families.{absolute_family, arm_ns_family, arm_s_family, data_family, riscv_family, rp2040_family}
 use Rattle.text_words.specs.Reading.{number_of}
@@ -19,15 +18,13 @@ use Rattle.script_words.specs.declared.forms.Keyword.{Keyword}
 use Rattle.script_words.specs.declared.forms.Keyword.TheVariants as keys
 use Rattle.script_words.specs.declared.rows.Row.{Row}
 use Rattle.script_words.specs.declared.rows.Row.TheVariants as rows
-use Rattle.script_words.specs.declared.splitting.TheConstants.{MOST_WORDS}
 use Rattle.script_words.specs.Forms.{keyword_text}
-use Rattle.script_words.specs.Rows.{first_word, form_at, forms_of, has_words}
+use Rattle.script_words.specs.Rows.{first_word, form_at, forms_of}
 use Rattle.script_words.specs.Values.{LineView, ValueView, Plain, Number, Span, Bytes}
 use Rattle.script_words.specs.Spelling.{after_blanks, family_text, further_words, line_text, name_or_number, range_text, spelled, token_words, value_words}
-use Rattle.script_words.specs.Splitting.{before_mark, blank_words, first_words, has_byte}
+use Rattle.script_words.specs.Splitting.{before_mark, blank_words, has_byte, words_in}
 use Rattle.script_words.specs.Saying.{HasToken, IsLine, MaySay, MaySayAll, line_words}
 use Rattle.law_scripts.proofs.CleanLemmas.{all_clean, are_words, clean-append, clean-bytes, clean-decimal, clean-hex, clean-row, is_clean, is_word, words-added, words-back}
-use Rattle.law_scripts.proofs.LineBackLemmas.{words-long}
 use Rattle.script_words.proofs.MarkLemmas.{free-append, is_free, is_other, mark-before, other-ne}
 
 -- ---- each word is one
@@ -252,56 +249,6 @@ first-is_word rows.RawPayload = refl
 first-is_word rows.RawBlock = refl
 first-is_word rows.End = refl
 
--- ---- how many
-
-few-other : (n k : ℕ) → (n == k) ≡ true → k ≤ 8 → n ≤ 4097
-few-other n k is few = let e = eqb-true n k is in omega (arith, e, few)
-
-few-values : (row : Row) (n : ℕ) → has_words row n ≡ true → n ≤ 4097
-few-values rows.Power n is = few-other n 0 is (omega arith)
-few-values rows.ResetNormal n is = few-other n 1 is (omega arith)
-few-values rows.ResetBootsel n is = few-other n 1 is (omega arith)
-few-values rows.ResetUpdate n is = few-other n 1 is (omega arith)
-few-values rows.CutBefore n is = few-other n 2 is (omega arith)
-few-values rows.CutWithin n is = few-other n 3 is (omega arith)
-few-values rows.Buy n is = few-other n 0 is (omega arith)
-few-values rows.Exclusive n is = few-other n 1 is (omega arith)
-few-values rows.Erase n is = few-other n 1 is (omega arith)
-few-values rows.Read n is = few-other n 1 is (omega arith)
-few-values rows.Write n is = few-other n 2 is (omega arith)
-few-values rows.WriteRange n is = few-other n 3 is (omega arith)
-few-values rows.WriteRest n is = few-other n 3 is (omega arith)
-few-values rows.ExitXip n is = few-other n 0 is (omega arith)
-few-values rows.EnterXip n is = few-other n 0 is (omega arith)
-few-values rows.RebootNormal n is = few-other n 1 is (omega arith)
-few-values rows.RebootBootsel n is = few-other n 1 is (omega arith)
-few-values rows.RebootUpdate n is = few-other n 1 is (omega arith)
-few-values rows.RebootRam n is = few-other n 1 is (omega arith)
-few-values rows.OtpRead n is = few-other n 2 is (omega arith)
-few-values rows.OtpWrite n is = leb-true n 4097 (and_parts (nat_le 2 n) (nat_le n 4097) is).1
-few-values rows.InfoTable n is = few-other n 2 is (omega arith)
-few-values rows.InfoTarget n is = few-other n 2 is (omega arith)
-few-values rows.InfoDevice n is = few-other n 2 is (omega arith)
-few-values rows.InfoPartition n is = few-other n 2 is (omega arith)
-few-values rows.Block n is = few-other n 7 is (omega arith)
-few-values rows.ImageBlock n is = few-other n 8 is (omega arith)
-few-values rows.RawCommand n is = few-other n 1 is (omega arith)
-few-values rows.RawPayload n is = few-other n 2 is (omega arith)
-few-values rows.RawBlock n is = few-other n 1 is (omega arith)
-few-values rows.End n is = few-other n 0 is (omega arith)
-
-few-tokens : (token : Option ℕ) → length (token_words token) ≤ 1
-few-tokens None = omega arith
-few-tokens (Some token) = omega arith
-
-few-words : (line : LineView) → IsLine line → length (line_words line) ≤ MOST_WORDS
-few-words line is =
-    let parts = length-append (value_words line.row 0 line.values) (token_words line.token) in
-    let values = words-long line.row 0 line.values in
-    let few = few-values line.row (length line.values) is.count in
-    let tokens = few-tokens line.token in
-    omega (arith, parts, values, few, tokens)
-
 -- ---- the line
 
 text-words : (line : LineView) → line_text line ≡ first_word line.row ++ after_blanks (further_words line)
@@ -350,30 +297,26 @@ not-mark : ◌≢◌ {A = ℕ} 32 35
 not-mark is = absurd (omega (arith, is))
 
 -- the words of a line are those that were spelled
-pub line-words : (line : LineView) → IsLine line → first_words (line_text line) ≡ line_words line
+pub line-words : (line : LineView) → IsLine line → words_in (line_text line) ≡ line_words line
 line-words line is =
-    ap (λ t. take MOST_WORDS (blank_words t))
-    (before-whole 35 (line_text line) (free-text 35 line (omega arith) not-mark is))
-    ∙ ap (take MOST_WORDS) (text-back line is)
-    ∙ take_all MOST_WORDS (line_words line) (few-words line is)
+    ap blank_words (before-whole 35 (line_text line) (free-text 35 line (omega arith) not-mark is))
+    ∙ text-back line is
 
 -- and so are those of a line with a comment behind it
 pub noted-words : (line : LineView) (note : List ℕ) → IsLine line
-    → first_words (line_text line ++ (codes " # " ++ note)) ≡ line_words line
+    → words_in (line_text line ++ (codes " # " ++ note)) ≡ line_words line
 noted-words line note is =
-    let text = line_text line in
-    ap (λ t. take MOST_WORDS (blank_words (before_mark 35 t)))
+    ap (λ t. blank_words (before_mark 35 t))
     (sym (append_assoc (line_text line) (32 ∷ []) (35 ∷ (32 ∷ note))))
-    ∙ ap (λ t. take MOST_WORDS (blank_words t))
+    ∙ ap blank_words
     (mark-before 35 (line_text line ++ (32 ∷ [])) (32 ∷ note)
     (free-append 35 (line_text line) (32 ∷ []) (free-text 35 line (omega arith) not-mark is) refl))
-    ∙ ap (take MOST_WORDS) (words-added (line_text line) ∙ text-back line is)
-    ∙ take_all MOST_WORDS (line_words line) (few-words line is)
+    ∙ words-added (line_text line) ∙ text-back line is
 
 pub line-read : (line : LineView) → is_listed line.row ≡ true → IsLine line
-    → line_in (first_words (line_text line)) ≡ Ok line
+    → line_in (words_in (line_text line)) ≡ Ok line
 line-read line listed is = ap line_in (line-words line is) ∙ line-back line listed is
 
 pub noted-read : (line : LineView) (note : List ℕ) → is_listed line.row ≡ true → IsLine line
-    → line_in (first_words (line_text line ++ (codes " # " ++ note))) ≡ Ok line
+    → line_in (words_in (line_text line ++ (codes " # " ++ note))) ≡ Ok line
 noted-read line note listed is = ap line_in (noted-words line note is) ∙ line-back line listed is

@@ -429,7 +429,7 @@ noted-short n note text most small few =
       few,
     )
 
-command-long : (command payload : List ℕ) → length command ≡ 32
+pub command-long : (command payload : List ℕ) → length command ≡ 32
     → length (written_event (Command command payload)) ≡ 37 + length payload
 command-long command payload long =
     omega (arith, long, length-append command (little_bytes 4 (length payload) ++ payload))

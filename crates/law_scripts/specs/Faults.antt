@@ -20,6 +20,12 @@ pub record IsRowOf (row : Row) (first : List ℕ) (count : ℕ) : Type 0 where
   pub first_is : first_word row ≡ first
   pub count_is : has_words row count ≡ true
 
+-- records that begin so and have as many words have the same forms at each place but one
+pub record DifferInOneWord (first : List ℕ) (count : ℕ) : Type 0 where
+  pub place : ℕ
+  pub others : (row other : Row) → IsRowOf row first count → IsRowOf other first count
+      → (i : ℕ) → i ≢ place → form_at row i ≡ form_at other i
+
 -- the word at a place behind the first is of the form that some row of as many words has there
 pub record IsOfForm (first : List ℕ) (words : List (List ℕ)) (place : ℕ) : Type 0 where
   pub row : Row

@@ -1,3 +1,5 @@
 -- These definitions are this project's own.
 pub mod Listed
+pub mod Tokens
 pub mod Faults
+pub mod Examples

@@ -2,4 +2,5 @@
 //! words is the first.
 #![tactic(auto)]
 
+pub mod examples;
 pub mod laws;

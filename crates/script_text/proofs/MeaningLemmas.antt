@@ -7,7 +7,7 @@ use Rattle.boot_script.specs.Written.{written_event}
 use Rattle.boot_script.specs.Scripts.{is_end}
 use Rattle.boot_script.specs.declared.limits.TheConstants.{SCRIPT_LIMIT}
 use Rattle.script_words.specs.declared.fault.LineFault.{LineFault}
-use Rattle.script_words.specs.Splitting.{first_words}
+use Rattle.script_words.specs.Splitting.{words_in}
 use Rattle.script_words.specs.Values.{LineView}
 use Rattle.script_words.specs.Finding.{line_in}
 use Rattle.script_words.specs.Made.{made}
@@ -16,8 +16,8 @@ use Rattle.script_text.specs.declared.script.TextError.TheVariants.{Line, Memory
 use Rattle.script_text.specs.declared.script.TextFault.{TextFault}
 use Rattle.script_text.specs.declared.script.TextFault.TheVariants.{BehindEnd, Words, Image, TooMany, TooLong}
 use Rattle.script_text.specs.declared.script.TheConstants.{MOST_RECORDS}
-use Rattle.script_text.specs.Reading.{Before, Step, Passed, Ends, Adds_event, behind, behind_end, found, line_step, lines_of, read_lines, room_step, said_step, start, text_events, then_lines, with_events, words_step}
-use Rattle.script_text.specs.Meaning.{Gives, HasRoomFor, IsFaultAt, IsLineFault, IsPassed, IsRecord, IsScriptText, IsScriptTextFault}
+use Rattle.script_text.specs.Reading.{Before, Step, Passed, Ends, Adds_event, behind, behind_end, found, line_step, lines_of, read_lines, room_step, said_step, start, text_events, then_lines, with_events}
+use Rattle.script_text.specs.Meaning.{Gives, HasRoomFor, IsLineFault, IsPassed, IsRecord, IsScriptText, IsScriptTextFault}
 use Rattle.script_text.proofs.ReadLemmas.{step-behind_end, step-end, step-event, step-fault, with-more, with-none}
 
 -- ---- a line alone
@@ -45,15 +45,15 @@ room-long s e few past =
 
 -- a fault of the rules is that of the line's step
 fault-step : (image : List ℕ) (s : Before) (line : List ℕ) (fault : TextFault) → IsLineFault image s line fault
-    → line_step image s (first_words line) ≡ Err fault
-fault-step image s line BehindEnd is = step-behind_end image s (first_words line) is.0 is.1
+    → line_step image s (words_in line) ≡ Err fault
+fault-step image s line BehindEnd is = step-behind_end image s (words_in line) is.0 is.1
 fault-step image s line (Words fault) is =
-    step-fault image s (first_words line) (Words fault) is.0 is.1 is.2
-fault-step image s line Image is = step-fault image s (first_words line) Image is.0 is.1 is.2
+    step-fault image s (words_in line) (Words fault) is.0 is.1 is.2
+fault-step image s line Image is = step-fault image s (words_in line) Image is.0 is.1 is.2
 fault-step image s line TooMany (e, rec, more, full) =
-    step-event image s (first_words line) e rec.words rec.going rec.gives more ∙ room-many s e full
+    step-event image s (words_in line) e rec.words rec.going rec.gives more ∙ room-many s e full
 fault-step image s line TooLong (e, rec, more, few, past) =
-    step-event image s (first_words line) e rec.words rec.going rec.gives more ∙ room-long s e few past
+    step-event image s (words_in line) e rec.words rec.going rec.gives more ∙ room-long s e few past
 
 -- what a line is, by its step
 data LineCase (image : List ℕ) (s : Before) (line : List ℕ) (r : Result Step TextFault) : Type 0 where
@@ -64,10 +64,10 @@ data LineCase (image : List ℕ) (s : Before) (line : List ℕ) (r : Result Step
   is_fault : (fault : TextFault) → IsLineFault image s line fault → r ≡ Err fault → LineCase image s line r
 
 event-case : (image : List ℕ) (s : Before) (line : List ℕ) (e : EventView) → IsRecord image s line e
-    → is_end e ≡ false → LineCase image s line (line_step image s (first_words line))
+    → is_end e ≡ false → LineCase image s line (line_step image s (words_in line))
 event-case image s line e rec more =
     let total = s.size + length (written_event e) + 1 in
-    let is = step-event image s (first_words line) e rec.words rec.going rec.gives more in
+    let is = step-event image s (words_in line) e rec.words rec.going rec.gives more in
     elim (cases_lt s.count MOST_RECORDS) [
       | inl few ↦ elim (cases_lt SCRIPT_LIMIT total) [
         | inl past ↦ is_fault TooLong (e, rec, more, few, past) (is ∙ room-long s e few past)
@@ -79,54 +79,54 @@ event-case image s line e rec more =
     ]
 
 record-case : (image : List ℕ) (s : Before) (line : List ℕ) (e : EventView) → IsRecord image s line e
-    → LineCase image s line (line_step image s (first_words line))
+    → LineCase image s line (line_step image s (words_in line))
 record-case image s line e rec = by_end (is_end e) refl
   where
-    by_end : (t : Bool) → is_end e ≡ t → LineCase image s line (line_step image s (first_words line))
+    by_end : (t : Bool) → is_end e ≡ t → LineCase image s line (line_step image s (words_in line))
     by_end true ends =
-        is_last e rec ends (step-end image s (first_words line) e rec.words rec.going rec.gives ends)
+        is_last e rec ends (step-end image s (words_in line) e rec.words rec.going rec.gives ends)
     by_end false more = event-case image s line e rec more
 
-some-case : (image : List ℕ) (s : Before) (line : List ℕ) → first_words line ≢ [] → s.ended ≡ false
-    → LineCase image s line (line_step image s (first_words line))
-some-case image s line some going = by_line (line_in (first_words line)) refl
+some-case : (image : List ℕ) (s : Before) (line : List ℕ) → words_in line ≢ [] → s.ended ≡ false
+    → LineCase image s line (line_step image s (words_in line))
+some-case image s line some going = by_line (line_in (words_in line)) refl
   where
-    by_made : (l : LineView) → line_in (first_words line) ≡ Ok l → (m : Option EventView)
+    by_made : (l : LineView) → line_in (words_in line) ≡ Ok l → (m : Option EventView)
         → made l.row l.values (unwrap_or l.token s.next) image ≡ m
-        → LineCase image s line (line_step image s (first_words line))
+        → LineCase image s line (line_step image s (words_in line))
     by_made l is None gives =
         let step = ap (said_step image s.next) is ∙ ap found gives in
-        is_fault Image (some, going, step) (step-fault image s (first_words line) Image some going step)
+        is_fault Image (some, going, step) (step-fault image s (words_in line) Image some going step)
     by_made l is (Some e) gives =
         record-case image s line e
         (record { words = some; going = going; gives = ap (said_step image s.next) is ∙ ap found gives })
 
-    by_line : (r : Result LineView LineFault) → line_in (first_words line) ≡ r
-        → LineCase image s line (line_step image s (first_words line))
+    by_line : (r : Result LineView LineFault) → line_in (words_in line) ≡ r
+        → LineCase image s line (line_step image s (words_in line))
     by_line (Err f) is =
         let step = ap (said_step image s.next) is in
-        is_fault (Words f) (some, going, step) (step-fault image s (first_words line) (Words f) some going step)
+        is_fault (Words f) (some, going, step) (step-fault image s (words_in line) (Words f) some going step)
     by_line (Ok l) is = by_made l is (made l.row l.values (unwrap_or l.token s.next) image) refl
 
 line-case : (image : List ℕ) (s : Before) (line : List ℕ)
-    → LineCase image s line (line_step image s (first_words line))
-line-case image s line = by_words (first_words line) refl
+    → LineCase image s line (line_step image s (words_in line))
+line-case image s line = by_words (words_in line) refl
   where
-    by_ended : (t : Bool) → s.ended ≡ t → first_words line ≢ []
-        → LineCase image s line (line_step image s (first_words line))
+    by_ended : (t : Bool) → s.ended ≡ t → words_in line ≢ []
+        → LineCase image s line (line_step image s (words_in line))
     by_ended true ended some =
-        is_fault BehindEnd (some, ended) (step-behind_end image s (first_words line) some ended)
+        is_fault BehindEnd (some, ended) (step-behind_end image s (words_in line) some ended)
     by_ended false going some = some-case image s line some going
 
-    by_words : (ws : List (List ℕ)) → first_words line ≡ ws
-        → LineCase image s line (line_step image s (first_words line))
+    by_words : (ws : List (List ℕ)) → words_in line ≡ ws
+        → LineCase image s line (line_step image s (words_in line))
     by_words [] is = is_passed is (ap (line_step image s) is)
     by_words (w ∷ ws) is = by_ended s.ended refl (λ none. absurd (cc (sym none ∙ is)))
 
 -- ---- lines that give events are read as these
 
 abbrev step-read : (image : List ℕ) (n : ℕ) (s : Before) (line : List ℕ) (lines : List (List ℕ))
-    (r : Result Step TextFault) → line_step image s (first_words line) ≡ r
+    (r : Result Step TextFault) → line_step image s (words_in line) ≡ r
     → read_lines image n s (line ∷ lines) ≡ then_lines n s r (λ t. read_lines image (n + 1) t lines)
 step-read image n s line lines r is = ap (λ x. then_lines n s x (λ t. read_lines image (n + 1) t lines)) is
 
@@ -148,12 +148,12 @@ gives-read image (line ∷ front) tail n s t es (inl (passed, more)) =
     ∙ ap (with_events es) (at-number image (n + 1 + length front) (n + length (line ∷ front)) t tail (omega arith))
 gives-read image (line ∷ front) tail n s t es (inr (inl (e, rec, ends, more))) =
     step-read image n s line (front ++ tail) (Ok Ends)
-    (step-end image s (first_words line) e rec.words rec.going rec.gives ends)
+    (step-end image s (words_in line) e rec.words rec.going rec.gives ends)
     ∙ gives-read image front tail (n + 1) (behind_end s) t es more
     ∙ ap (with_events es) (at-number image (n + 1 + length front) (n + length (line ∷ front)) t tail (omega arith))
 gives-read image (line ∷ front) tail n s t es (inr (inr (e, others, rec, inside, room, all, more))) =
     step-read image n s line (front ++ tail) (Ok (Adds_event e))
-    (step-event image s (first_words line) e rec.words rec.going rec.gives inside ∙ room-fits s e room)
+    (step-event image s (words_in line) e rec.words rec.going rec.gives inside ∙ room-fits s e room)
     ∙ ap (with_events (e ∷ [])) (gives-read image front tail (n + 1) (behind s e) t others more)
     ∙ sym (with-more (e ∷ []) others (read_lines image (n + 1 + length front) t tail))
     ∙ ap (with_events (e ∷ others))
@@ -218,7 +218,7 @@ case-means image n s line lines es ih r is (is_fault fault wrong step) =
 lines-mean : (image : List ℕ) (lines : List (List ℕ)) → MeansOf image lines
 lines-mean image [] n s es is = let none : es ≡ [] = cc is in (s, (none, refl))
 lines-mean image (line ∷ lines) n s es is =
-    case-means image n s line lines es (lines-mean image lines) (line_step image s (first_words line)) is
+    case-means image n s line lines es (lines-mean image lines) (line_step image s (words_in line)) is
     (line-case image s line)
 
 pub text-means : (image text : List ℕ) (es : List EventView) → text_events image text ≡ Ok es
@@ -303,7 +303,7 @@ case-fails image n s line lines error ih r is (is_fault fault wrong step) =
 lines-fail : (image : List ℕ) (lines : List (List ℕ)) → FailsOf image lines
 lines-fail image [] n s error is = absurd (cc is)
 lines-fail image (line ∷ lines) n s error is =
-    case-fails image n s line lines error (lines-fail image lines) (line_step image s (first_words line)) is
+    case-fails image n s line lines error (lines-fail image lines) (line_step image s (words_in line)) is
     (line-case image s line)
 
 pub text-fails : (image text : List ℕ) (error : TextError) → text_events image text ≡ Err error

@@ -1,17 +1,17 @@
 -- Events that were added to a script line by line.
-use Rattle.std.proofs.Common.{◌≡◌, ◌≢◌, ℕ, ◌+◌, true, false, List, [], ◌∷◌, ◌++◌, length, Some, None, refl, sym, ap, subst, ◌∙◌, arith, append_assoc, append-nil, length-append}
+use Rattle.std.proofs.Common.{◌≡◌, ℕ, ◌+◌, List, [], ◌∷◌, ◌++◌, Some, None, sym, ap, subst, ◌∙◌, arith, append_assoc, append-nil, length-append}
 use Rattle.std.specs.Prelude.{Result, Ok, Err, OnOk}
 use Rattle.std.specs.List.{AllByRecursion, flat_map}
 use Rattle.std.proofs.lemmas.Grind.{flat_map-append}
 use Rattle.boot_script.specs.Events.{EventView}
 use Rattle.boot_script.specs.Scripts.{IsBeforeEnd}
 use Rattle.boot_script.specs.Written.{written_event}
-use Rattle.script_words.specs.Splitting.{before_mark, behind_mark, first_words}
+use Rattle.script_words.specs.Splitting.{before_mark, behind_mark, first_words, words_in}
 use Rattle.script_text.specs.declared.reading.Begun.{Begun}
 use Rattle.script_text.specs.declared.script.TextError.{TextError}
 use Rattle.script_text.specs.declared.script.TextScript.{TextScript}
-use Rattle.script_text.specs.Reading.{Adds, Before, IsRead, Reads, Step, Passed, Ends, Adds_event, behind, behind_end, line_step, lines_of, read_lines, state_from, room_step, then_lines, told, with_events}
-use Rattle.script_text.proofs.ReadLemmas.{lines-next, lines_in, told-fault, with-more, with-none}
+use Rattle.script_text.specs.Reading.{Adds, Before, IsRead, Reads, Ends, Adds_event, behind, behind_end, line_step, lines_of, read_lines, state_from, room_step, then_lines, told, with_events}
+use Rattle.script_text.proofs.ReadLemmas.{lines-next, lines_in, step-looked, told-fault, with-more, with-none}
 
 pub adds-none : (s : TextScript) → Adds s s []
 adds-none s = record { bytes = sym (append-nil s.bytes.items); records = omega arith }
@@ -40,8 +40,8 @@ reads-passed image n old line new none same =
       adds = adds-none old.script;
       inside = tt;
       others = λ lines.
-          ap (λ ws. then_lines n (state_from old) (line_step image (state_from old) ws)
-          (λ t. read_lines image (n + 1) t lines)) none
+          ap (λ r. then_lines n (state_from old) r (λ t. read_lines image (n + 1) t lines))
+          (sym (step-looked image (state_from old) line) ∙ ap (line_step image (state_from old)) none)
           ∙ sym (with-none (read_lines image (n + 1) (state_from old) lines));
     })
 
@@ -54,7 +54,8 @@ reads-end image n old line new step same state = record {
   adds = subst (λ (s : TextScript). Adds old.script s []) (sym same) (adds-none old.script);
   inside = tt;
   others = λ lines.
-      ap (λ r. then_lines n (state_from old) r (λ t. read_lines image (n + 1) t lines)) step
+      ap (λ r. then_lines n (state_from old) r (λ t. read_lines image (n + 1) t lines))
+      (sym (step-looked image (state_from old) line) ∙ step)
       ∙ ap (λ t. read_lines image (n + 1) t lines) (sym state)
       ∙ sym (with-none (read_lines image (n + 1) (state_from new) lines));
 }
@@ -69,7 +70,8 @@ reads-event image n old line new e step adds well state = record {
   adds = adds;
   inside = (well, tt);
   others = λ lines.
-      ap (λ r. then_lines n (state_from old) r (λ t. read_lines image (n + 1) t lines)) step
+      ap (λ r. then_lines n (state_from old) r (λ t. read_lines image (n + 1) t lines))
+      (sym (step-looked image (state_from old) line) ∙ step)
       ∙ ap (λ t. with_events (e ∷ []) (read_lines image (n + 1) t lines)) (sym state);
 }
 
@@ -116,8 +118,9 @@ pub so_far-fault : (image : List ℕ) (start : Begun) (text : List ℕ) (n : ℕ
 so_far-fault image start text n s rest line error is so_far wrong =
     so_far.others
     ∙ ap (with_events so_far.es) (line-ends image n (state_from s) rest line is
-    ∙ told-fault n (line_step image (state_from s) (first_words line)) error
-    (λ t. read_lines image (n + 1) t (lines_in (behind_mark 10 rest))) (state_from s) wrong)
+    ∙ told-fault n (line_step image (state_from s) (words_in line)) error
+    (λ t. read_lines image (n + 1) t (lines_in (behind_mark 10 rest))) (state_from s)
+    (ap (told n) (sym (step-looked image (state_from s) line)) ∙ wrong))
 
 pub so_far-more : (image : List ℕ) (start : Begun) (text : List ℕ) (n : ℕ) (s new : Begun)
     (rest line more : List ℕ) → line ≡ before_mark 10 rest → Some more ≡ behind_mark 10 rest

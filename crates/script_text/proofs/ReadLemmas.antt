@@ -1,15 +1,17 @@
 -- What is read of lines, line by line.
-use Rattle.std.proofs.Common.{◌≡◌, ◌≢◌, ℕ, ◌+◌, Bool, true, false, List, [], ◌∷◌, ◌++◌, length, Option, Some, None, refl, sym, ap, ◌∙◌, append_assoc, inl, inr}
-use Rattle.std.specs.Prelude.{Result, Ok, Err}
+use Rattle.std.proofs.Common.{◌≡◌, ◌≢◌, ℕ, true, false, List, [], ◌∷◌, ◌++◌, take, Option, Some, None, refl, sym, ap, ◌∙◌, append_assoc, arith, inl, inr}
+use Rattle.std.specs.Prelude.{Result, Ok, Err, if◌then◌else◌}
 use Rattle.std.proofs.lemmas.Bool.{cases_eq, eq-eqb, ne_eqb}
 use Rattle.boot_script.specs.Events.{EventView}
 use Rattle.boot_script.specs.Scripts.{is_end}
-use Rattle.script_words.specs.Splitting.{before_mark, behind_mark, first_words, in_first}
+use Rattle.script_words.specs.Splitting.{before_mark, behind_mark, first_words, words_in}
+use Rattle.script_words.specs.declared.splitting.TheConstants.{MOST_WORDS}
+use Rattle.script_words.specs.Finding.{line_in}
+use Rattle.script_words.proofs.LookLemmas.{enough-words, none-first}
 use Rattle.script_text.specs.declared.script.TextError.{TextError}
-use Rattle.script_text.specs.declared.script.TextError.TheVariants.{Line}
 use Rattle.script_text.specs.declared.script.TextFault.{TextFault}
 use Rattle.script_text.specs.declared.script.TextFault.TheVariants.{BehindEnd}
-use Rattle.script_text.specs.Reading.{Before, Step, Passed, Ends, Adds_event, behind, behind_end, line_step, limit_step, lines_of, read_lines, room_step, then_lines, told, with_events, words_step}
+use Rattle.script_text.specs.Reading.{Before, Step, Ends, line_step, limit_step, lines_of, room_step, said_step, then_lines, told, with_events, words_step}
 
 pub with-none : (r : Result (List EventView) TextError) → with_events [] r ≡ r
 with-none (Ok es) = refl
@@ -55,6 +57,31 @@ step-end image s ws e some ended is ends = step-going image s ws some ended ∙ 
 pub step-event : (image : List ℕ) (s : Before) (ws : List (List ℕ)) (e : EventView) → ws ≢ [] → s.ended ≡ false
     → words_step image s.next ws ≡ Ok e → is_end e ≡ false → line_step image s ws ≡ room_step s e
 step-event image s ws e some ended is more = step-going image s ws some ended ∙ ap (limit_step s) is ∙ rw more refl
+
+-- ---- the words of a line that are looked at
+
+step-some : (image : List ℕ) (s : Before) (ws : List (List ℕ)) → ws ≢ []
+    → line_step image s ws
+    ≡ (if s.ended then Err BehindEnd else limit_step s (said_step image s.next (line_in ws)))
+step-some image s [] some = absurd (some refl)
+step-some image s (w ∷ ws) some = refl
+
+-- the first words of a line add what all of them add
+pub step-looked : (image : List ℕ) (s : Before) (line : List ℕ)
+    → line_step image s (first_words line) ≡ line_step image s (words_in line)
+step-looked image s line = by_words (words_in line) refl
+  where
+    by_words : (ws : List (List ℕ)) → words_in line ≡ ws
+        → line_step image s (first_words line) ≡ line_step image s (words_in line)
+    by_words [] is =
+        ap (line_step image s) (ap (take MOST_WORDS) is) ∙ sym (ap (line_step image s) is)
+    by_words (w ∷ ws) is =
+        let some : words_in line ≢ [] = λ none. absurd (cc (sym none ∙ is)) in
+        step-some image s (first_words line)
+        (λ none. some (none-first MOST_WORDS (words_in line) (omega arith) none))
+        ∙ ap (λ r. if s.ended then Err BehindEnd else limit_step s (said_step image s.next r))
+        (enough-words MOST_WORDS (words_in line) (omega arith))
+        ∙ sym (step-some image s (words_in line) some)
 
 -- ---- what is read from a line on, by its step
 

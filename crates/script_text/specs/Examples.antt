@@ -1,5 +1,5 @@
 -- What the worked examples name.
-use Rattle.std.specs.Prelude.{ℕ, ◌==◌, Bool, true, false, List, [], ◌∷◌, ◌++◌, replicate, Result}
+use Rattle.std.specs.Prelude.{ℕ, Bool, List, [], ◌∷◌, ◌++◌, replicate, Result}
 use Rattle.byteorder.specs.Endian.{little_bytes}
 use Rattle.picoboot_cmd.specs.Commands as commands
 use Rattle.picoboot_cmd.specs.Examples.{command}

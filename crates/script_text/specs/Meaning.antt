@@ -4,7 +4,7 @@ use Rattle.boot_script.specs.Events.{EventView}
 use Rattle.boot_script.specs.Written.{written_event}
 use Rattle.boot_script.specs.Scripts.{is_end}
 use Rattle.boot_script.specs.declared.limits.TheConstants.{SCRIPT_LIMIT}
-use Rattle.script_words.specs.Splitting.{first_words}
+use Rattle.script_words.specs.Splitting.{words_in}
 use Rattle.script_text.specs.declared.script.TextFault.{TextFault}
 use Rattle.script_text.specs.declared.script.TextFault.TheVariants.{BehindEnd, Words, Image, TooMany, TooLong}
 use Rattle.script_text.specs.declared.script.TextError.{TextError}
@@ -15,13 +15,13 @@ use Rattle.script_text.specs.Reading.{Before, behind, behind_end, lines_of, scri
 
 -- a line without words is passed over
 abbrev pub IsPassed : List ℕ → Type 0
-IsPassed line = first_words line ≡ []
+IsPassed line = words_in line ≡ []
 
 -- a line with words, which gives this record where no `end` line came before
 pub record IsRecord (image : List ℕ) (s : Before) (line : List ℕ) (e : EventView) : Type 0 where
-  pub words : first_words line ≢ []
+  pub words : words_in line ≢ []
   pub going : s.ended ≡ false
-  pub gives : words_step image s.next (first_words line) ≡ Ok e
+  pub gives : words_step image s.next (words_in line) ≡ Ok e
 
 -- a record other than the end has room: at most so many come before the end, and with the end the
 -- script has at most so many bytes
@@ -50,11 +50,11 @@ IsScriptText image text es = (t : Before) × Gives image start (lines_of text) e
 -- - it is a record other than the end, and too many come before it
 -- - it is a record other than the end, and with it and the end the script is too long
 abbrev pub IsLineFault : List ℕ → Before → List ℕ → TextFault → Type 0
-IsLineFault image s line BehindEnd = (first_words line ≢ []) × (s.ended ≡ true)
-IsLineFault image s line (Words fault) = (first_words line ≢ []) × (s.ended ≡ false)
-    × (words_step image s.next (first_words line) ≡ Err (Words fault))
-IsLineFault image s line Image = (first_words line ≢ []) × (s.ended ≡ false)
-    × (words_step image s.next (first_words line) ≡ Err Image)
+IsLineFault image s line BehindEnd = (words_in line ≢ []) × (s.ended ≡ true)
+IsLineFault image s line (Words fault) = (words_in line ≢ []) × (s.ended ≡ false)
+    × (words_step image s.next (words_in line) ≡ Err (Words fault))
+IsLineFault image s line Image = (words_in line ≢ []) × (s.ended ≡ false)
+    × (words_step image s.next (words_in line) ≡ Err Image)
 IsLineFault image s line TooMany =
     (e : EventView) × IsRecord image s line e × (is_end e ≡ false) × (MOST_RECORDS ≤ s.count)
 IsLineFault image s line TooLong =

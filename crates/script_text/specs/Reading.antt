@@ -8,7 +8,7 @@ use Rattle.boot_script.specs.Scripts.{IsBeforeEnd, is_end}
 use Rattle.boot_script.specs.declared.limits.TheConstants.{SCRIPT_LIMIT}
 use Rattle.script_words.specs.declared.fault.LineFault.{LineFault}
 use Rattle.script_words.specs.declared.record.Record.{Record}
-use Rattle.script_words.specs.Splitting.{first_words, in_first}
+use Rattle.script_words.specs.Splitting.{in_first, words_in}
 use Rattle.script_words.specs.Values.{LineView}
 use Rattle.script_words.specs.Finding.{line_in}
 use Rattle.script_words.specs.Made.{made, record_from}
@@ -121,7 +121,7 @@ then_lines n s (Ok (Adds_event e)) others = with_events (e ∷ []) (others (behi
 abbrev pub read_lines : List ℕ → ℕ → Before → List (List ℕ) → Result (List EventView) TextError
 read_lines image n s [] = Ok []
 read_lines image n s (line ∷ lines) =
-    then_lines n s (line_step image s (first_words line)) (λ t. read_lines image (n + 1) t lines)
+    then_lines n s (line_step image s (words_in line)) (λ t. read_lines image (n + 1) t lines)
 
 -- the events of a text before its end, or its first fault; its lines may take bytes of an image,
 -- which has no byte where there is none

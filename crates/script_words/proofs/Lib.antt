@@ -4,3 +4,4 @@ mod FindLemmas
 pub mod PatternLemmas
 mod ListLemmas
 mod SaidLemmas
+pub mod LookLemmas

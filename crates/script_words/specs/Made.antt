@@ -225,7 +225,8 @@ made_plain row values = End
 
 -- the record of a row that takes bytes of an image
 abbrev pub made_of_image : Row → List ValueView → ℕ → List ℕ → EventView
-made_of_image rows.ImageBlock values token bytes = Uf2 (written_block (block_of values (page_of bytes)))
+made_of_image rows.ImageBlock values token bytes =
+    Uf2 (written_block (block_of values (page_of bytes)))
 made_of_image row values token bytes = made_command row values token bytes
 
 -- the record of a row that takes no bytes of an image
@@ -238,11 +239,13 @@ made_own row values token =
 -- where the image has not the bytes that it takes
 abbrev pub made : Row → List ValueView → ℕ → List ℕ → Option EventView
 made rows.WriteRange values token image =
-    option_map (made_of_image rows.WriteRange values token) (image_bytes rows.WriteRange values image)
+    option_map (made_of_image rows.WriteRange values token)
+    (image_bytes rows.WriteRange values image)
 made rows.WriteRest values token image =
     option_map (made_of_image rows.WriteRest values token) (image_bytes rows.WriteRest values image)
 made rows.ImageBlock values token image =
-    option_map (made_of_image rows.ImageBlock values token) (image_bytes rows.ImageBlock values image)
+    option_map (made_of_image rows.ImageBlock values token)
+    (image_bytes rows.ImageBlock values image)
 made row values token image = Some (made_own row values token)
 
 -- the pattern of a cut goes with its part

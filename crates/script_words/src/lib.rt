@@ -6,6 +6,7 @@ pub mod examples;
 mod fault;
 mod finding;
 mod forms;
+pub mod laws;
 mod making;
 mod naming;
 mod reading;

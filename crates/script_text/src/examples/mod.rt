@@ -7,11 +7,12 @@ ghost use Rattle.picoboot_cmd.specs.Examples.{padded_range_args, row_args};
 ghost use Rattle.uf2_place.specs.declared.block.TheConstants.{START};
 ghost use Rattle.boot_script.specs.Events.{Buy, Command, PowerOn, Reset};
 ghost use Rattle.script_words.specs.declared.fault.LineFault.TheVariants as faults;
+ghost use Rattle.script_text.specs.declared.script.TheConstants.{MOST_RECORDS, TEXT_LIMIT};
 ghost use Rattle.script_text.specs.declared.script.TextError.TheVariants.{Line};
 ghost use Rattle.script_text.specs.declared.script.TextFault.TheVariants.{BehindEnd, Image, TooLong, TooMany, Words};
 ghost use Rattle.script_text.specs.Comments.{command_text};
 ghost use Rattle.script_text.specs.Listing.{listed};
-ghost use Rattle.script_text.specs.Reading.{Adds_event, Ends, Passed, lines_of, text_events, token_behind};
+ghost use Rattle.script_text.specs.Reading.{Adds_event, Ends, Passed, lines_of, script_of, text_events, token_behind};
 ghost use Rattle.script_text.specs.Examples.{before, block_note, info_note, note, reboot_note, step};
 
 /// What the comment of each command says. A command with another argument size than its own is
@@ -131,4 +132,11 @@ pub fn faults_of_lines()
     ensures image_before_many { step (before 524287 0 false) (codes "write 0x0 image 0x0+")
         ≡ Err Image }
     ensures many_before_long { step (before 524287 67108863 false) (codes "buy") ≡ Err TooMany }
+{}
+
+/// The greatest text, and the most records before an end.
+pub fn limits_of_texts()
+    ensures text { TEXT_LIMIT ≡ 209715200 }
+    ensures records { MOST_RECORDS ≡ 524287 }
+    ensures end_alone { script_of [] ≡ 0 ∷ [] }
 {}

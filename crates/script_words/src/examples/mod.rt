@@ -1,6 +1,9 @@
 //! Worked examples of the words of a line, proved by computing: both sides of each bound of what is
 //! read, lines with two faults, and the line of each record.
 
+pub mod blocks;
+pub mod table;
+
 ghost use Rattle.std.specs.Prelude.{◌≡◌, [], ◌∷◌, ◌++◌, Err, None, Ok, Some, codes, false, replicate, true};
 ghost use Rattle.pico_board.specs.declared.BootKind.TheVariants.{Bootsel, Normal, Update};
 ghost use Rattle.boot_script.specs.Events.{Buy, Command, Cut, End, PowerOn, Reset};
