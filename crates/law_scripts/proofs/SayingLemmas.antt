@@ -332,8 +332,10 @@ values-say row place (word ∷ words) values listed is =
     by_value (Some v) first (Ok rest) others more same =
         let e : (v ∷ rest) ≡ values = cc same in
         let m = more rest others in
-        subst (λ (vs : List ValueView). MaySayAll row place vs × (length vs ≡ length (word ∷ words))) e
-        ((word-says (form_at row place) word v (form-in (forms_of row) place (forms-own row listed)) first, m.0), ap suc m.1)
+        subst (λ (vs : List ValueView). MaySayAll row place vs × (length vs ≡ length (word ∷ words))) e (
+          (word-says (form_at row place) word v (form-in (forms_of row) place (forms-own row listed)) first, m.0),
+          ap suc m.1,
+        )
     by_value (Some v) first (Err n) others more same = absurd (cc same)
 
 -- ---- the line

@@ -27,24 +27,27 @@ pub fn limits_of_scripts()
 /// The rows of lines in words, and those of all lines that `list` writes.
 pub fn rows_of_listed_texts()
     ensures in_words { filter is_in_words ROWS ≡ rows.Power ∷ rows.ResetNormal ∷ rows.ResetBootsel
-        ∷ rows.ResetUpdate ∷ rows.CutBefore ∷ rows.CutWithin ∷ rows.Buy ∷ rows.Exclusive ∷ rows.Erase
-        ∷ rows.Read ∷ rows.Write ∷ rows.ExitXip ∷ rows.EnterXip ∷ rows.RebootNormal
+        ∷ rows.ResetUpdate ∷ rows.CutBefore ∷ rows.CutWithin ∷ rows.Buy ∷ rows.Exclusive
+        ∷ rows.Erase ∷ rows.Read ∷ rows.Write ∷ rows.ExitXip ∷ rows.EnterXip ∷ rows.RebootNormal
         ∷ rows.RebootBootsel ∷ rows.RebootUpdate ∷ rows.RebootRam ∷ rows.OtpRead ∷ rows.OtpWrite
         ∷ rows.InfoTable ∷ rows.InfoTarget ∷ rows.InfoDevice ∷ rows.InfoPartition ∷ rows.Block
         ∷ rows.End ∷ [] }
     ensures listed { filter is_listed ROWS ≡ rows.Power ∷ rows.ResetNormal ∷ rows.ResetBootsel
-        ∷ rows.ResetUpdate ∷ rows.CutBefore ∷ rows.CutWithin ∷ rows.Buy ∷ rows.Exclusive ∷ rows.Erase
-        ∷ rows.Read ∷ rows.Write ∷ rows.ExitXip ∷ rows.EnterXip ∷ rows.RebootNormal
+        ∷ rows.ResetUpdate ∷ rows.CutBefore ∷ rows.CutWithin ∷ rows.Buy ∷ rows.Exclusive
+        ∷ rows.Erase ∷ rows.Read ∷ rows.Write ∷ rows.ExitXip ∷ rows.EnterXip ∷ rows.RebootNormal
         ∷ rows.RebootBootsel ∷ rows.RebootUpdate ∷ rows.RebootRam ∷ rows.OtpRead ∷ rows.OtpWrite
         ∷ rows.InfoTable ∷ rows.InfoTarget ∷ rows.InfoDevice ∷ rows.InfoPartition ∷ rows.Block
         ∷ rows.RawCommand ∷ rows.RawPayload ∷ rows.RawBlock ∷ rows.End ∷ [] }
 {}
 
-/// The second word of `exclusive 256 token=0x1` is the first that is not of its form, and the token
-/// behind it is none of the words that count. In `exclusive 255 token=5` it is the token, the third.
+/// The second word of `exclusive 256 token=0x1` is the first that is not of its form, and the
+/// token behind it is none of the words that count. In `exclusive 255 token=5` it is the token,
+/// the third.
 pub fn numbers_of_wrong_words()
-    ensures word { IsWordsFault (codes "exclusive") (codes "256" ∷ codes "token=0x1" ∷ []) (Value 2) }
-    ensures token { IsWordsFault (codes "exclusive") (codes "255" ∷ codes "token=5" ∷ []) (Value 3) }
+    ensures word { IsWordsFault (codes "exclusive") (codes "256" ∷ codes "token=0x1" ∷ [])
+        (Value 2) }
+    ensures token { IsWordsFault (codes "exclusive") (codes "255" ∷ codes "token=5" ∷ [])
+        (Value 3) }
 {}
 
 /// The command `exit-xip` with the tokens 1 and 2, and an event that is no command.

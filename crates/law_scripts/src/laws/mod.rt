@@ -60,9 +60,10 @@ pub fn lines_that_are_read_may_be_said()
         → is_listed line.row ≡ true → IsLine line }
 {}
 
-/// A record that some line in words gives, whose token is not the one that it would have without, is
-/// written as this line; so is the record of each such line that is read. So a record is written by
-/// its bytes only where no line in words gives it. No line has the token that it would have without.
+/// A record that some line in words gives, whose token is not the one that it would have without,
+/// is written as this line; so is the record of each such line that is read. So a record is
+/// written by its bytes only where no line in words gives it. No line has the token that it would
+/// have without.
 pub fn records_are_written_in_words()
     ensures token { (next : ℕ) (e : EventView) → (line_of next e).token ≢ Some next }
     ensures said { (next : ℕ) (line : LineView) (e : EventView) (image : List ℕ) → next < 2 ^ 32
@@ -87,8 +88,8 @@ pub fn lines_differ_as_their_events()
 {}
 
 /// The token that comes next counts up to the next command alone. A line with a token, or of no
-/// command in words, gives its record whatever the token; behind a command the next token is that of
-/// this command alone; and of what is listed, only the line of the first command depends on it.
+/// command in words, gives its record whatever the token; behind a command the next token is that
+/// of this command alone; and of what is listed, only the line of the first command depends on it.
 pub fn a_token_counts_up_to_the_next_command()
     ensures gives { (next other : ℕ) (line : LineView) (image : List ℕ)
         → (line.token ≢ None) ⊎ (is_command line.row ≡ false)

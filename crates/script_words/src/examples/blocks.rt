@@ -16,10 +16,11 @@ pub fn pages()
     ensures one_more { page_of (replicate 256 0x77 ++ (0x78 ∷ [])) ≡ replicate 256 0x77 }
 {}
 
-/// The line of a block: what is read of it, the block that it gives, and how this is listed. The page
-/// of the last of an image's three bytes.
+/// The line of a block: what is read of it, the block that it gives, and how this is listed. The
+/// page of the last of an image's three bytes.
 pub fn lines_of_blocks()
-    ensures read { read (codes "uf2 0 of 2 at 0x10000000 family=rp2350-arm-s " ++ replicate 512 0x37)
+    ensures read { read
+        (codes "uf2 0 of 2 at 0x10000000 family=rp2350-arm-s " ++ replicate 512 0x37)
         ≡ Ok (said rows.Block (block_says (Bytes (replicate 256 0x77) ∷ [])) None) }
     ensures gives { made rows.Block (block_says (Bytes (replicate 256 0x77) ∷ [])) 1 []
         ≡ Some (Uf2 (block_bytes 0x2000 256 (replicate 256 0x77) 0)) }
@@ -27,14 +28,14 @@ pub fn lines_of_blocks()
         ≡ codes "uf2 0 of 2 at 0x10000000 family=rp2350-arm-s " ++ replicate 512 0x37 }
     ensures of_image { read (codes "uf2 0 of 2 at 0x10000000 family=0xe48bff59 image 0x2")
         ≡ Ok (said rows.ImageBlock (block_says (Plain ∷ Number 2 ∷ [])) None) }
-    ensures rest_of_image { made rows.ImageBlock (block_says (Plain ∷ Number 2 ∷ [])) 1 (7 ∷ 8 ∷ 9 ∷ [])
-        ≡ Some (Uf2 (block_bytes 0x2000 256 (9 ∷ replicate 255 0xff) 0)) }
+    ensures rest_of_image { made rows.ImageBlock (block_says (Plain ∷ Number 2 ∷ [])) 1
+        (7 ∷ 8 ∷ 9 ∷ []) ≡ Some (Uf2 (block_bytes 0x2000 256 (9 ∷ replicate 255 0xff) 0)) }
     ensures end_of_image { made rows.ImageBlock (block_says (Plain ∷ Number 3 ∷ [])) 1
         (7 ∷ 8 ∷ 9 ∷ []) ≡ None }
 {}
 
-/// Blocks that no line in words gives: with another flag, with another payload size, and with a byte
-/// behind their page.
+/// Blocks that no line in words gives: with another flag, with another payload size, and with a
+/// byte behind their page.
 pub fn blocks_by_bytes()
     ensures flag { line_of 1 (Uf2 (block_bytes 0x2001 256 (replicate 256 0x77) 0))
         ≡ said rows.RawBlock (Bytes (block_bytes 0x2001 256 (replicate 256 0x77) 0) ∷ []) None }

@@ -2,6 +2,7 @@
 //! read, lines with two faults, and the line of each record.
 
 pub mod blocks;
+pub mod saying;
 pub mod table;
 
 ghost use Rattle.std.specs.Prelude.{◌≡◌, [], ◌∷◌, ◌++◌, Err, None, Ok, Some, codes, false, replicate, true};

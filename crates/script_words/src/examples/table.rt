@@ -6,8 +6,8 @@ ghost use Rattle.script_words.specs.declared.rows.Row.TheVariants as rows;
 ghost use Rattle.script_words.specs.declared.rows.TheConstants.{ROWS};
 ghost use Rattle.script_words.specs.Rows.{has_words, is_command, is_hex};
 
-/// A write of OTP rows has 1 to 4096 of them behind the first row's number. Each other record has as
-/// many words as forms.
+/// A write of OTP rows has 1 to 4096 of them behind the first row's number. Each other record has
+/// as many words as forms.
 pub fn numbers_of_words()
     ensures no_row { has_words rows.OtpWrite 1 ≡ false }
     ensures one_row { has_words rows.OtpWrite 2 ≡ true }
