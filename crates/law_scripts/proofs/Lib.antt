@@ -15,3 +15,4 @@ mod NamedLineLemmas
 mod SayingLemmas
 mod TokenLemmas
 mod LimitLemmas
+mod ImageLemmas

@@ -1,13 +1,14 @@
 //! Laws of the text form of a script.
 
-ghost use Rattle.std.specs.Prelude.{◌≡◌, ◌≢◌, ◌↔◌, ◌⊎◌, ◌^◌, ◌++◌, ◌<◌, ◌≤◌, [], ◌∷◌, ℕ, All, Err, List, None, Ok, Some, codes, false, length, true, unwrap_or};
+ghost use Rattle.std.specs.Prelude.{◌≡◌, ◌≢◌, ◌↔◌, ◌⊎◌, ◌+◌, ◌^◌, ◌++◌, ◌<◌, ◌≤◌, [], ◌∷◌, ℕ, All, Err, List, None, Ok, Some, codes, drop, false, get_or, length, slice_range, true, unwrap_or};
 ghost use Rattle.std.specs.List.{AllByRecursion};
 ghost use Rattle.boot_script.specs.Events.{Command, EventView};
 ghost use Rattle.boot_script.specs.Judging.{IsScript};
 ghost use Rattle.boot_script.specs.Scripts.{IsBeforeEnd, events};
 ghost use Rattle.script_words.specs.declared.fault.LineFault.{LineFault};
+ghost use Rattle.script_words.specs.declared.rows.Row.TheVariants as rows;
 ghost use Rattle.script_words.specs.Finding.{line_in};
-ghost use Rattle.script_words.specs.Made.{made};
+ghost use Rattle.script_words.specs.Made.{made, page_of};
 ghost use Rattle.script_words.specs.Naming.{line_of};
 ghost use Rattle.script_words.specs.Rows.{is_command};
 ghost use Rattle.script_words.specs.Saying.{HasEventBytes, IsEvent, IsLine};
@@ -19,6 +20,7 @@ ghost use Rattle.script_text.specs.Listing.{listed};
 ghost use Rattle.script_text.specs.Meaning.{IsWithinLimits};
 ghost use Rattle.script_text.specs.Reading.{text_events, token_behind};
 ghost use Rattle.law_scripts.specs.Faults.{DifferInOneWord, IsWordsFault};
+ghost use Rattle.law_scripts.specs.Images.{block_line, page_line, range_line, rest_line, write_line};
 ghost use Rattle.law_scripts.specs.Listed.{is_in_words, is_listed};
 ghost use Rattle.law_scripts.specs.Tokens.{DifferInToken, HasParts, IsNoCommand};
 
@@ -62,8 +64,8 @@ pub fn lines_that_are_read_may_be_said()
 
 /// A record that some line in words gives, whose token is not the one that it would have without,
 /// is written as this line; so is the record of each such line that is read. So a record is
-/// written by its bytes only where no line in words gives it. No line has the token that it would
-/// have without.
+/// written by its bytes only where no line in words gives it. No listed line has the token that it
+/// would have without.
 pub fn records_are_written_in_words()
     ensures token { (next : ℕ) (e : EventView) → (line_of next e).token ≢ Some next }
     ensures said { (next : ℕ) (line : LineView) (e : EventView) (image : List ℕ) → next < 2 ^ 32
@@ -139,4 +141,33 @@ pub fn listed_texts_are_short()
         → IsWithinLimits es → length (listed es) ≤ TEXT_LIMIT }
     ensures script { (script : List ℕ) (es : List EventView) → All (λ b. b < 256) script
         → IsScript script → events script ≡ Ok es → length (listed es) ≤ TEXT_LIMIT }
+{}
+
+/// A line that takes bytes of an image gives what the line with these bytes gives: those of a range
+/// in the image, those from an offset on, or a page of them with 0xff past the image's end. It gives
+/// nothing where the range leaves the image, or where the offset is at its end or past it.
+pub fn image_words_take_bytes_of_the_image()
+    ensures range { (address start size token : ℕ) (image : List ℕ)
+        → start + size ≤ length image
+        → made rows.WriteRange (range_line address start size) token image
+        ≡ made rows.Write (write_line address (slice_range image start (start + size))) token [] }
+    ensures past_range { (address start size token : ℕ) (image : List ℕ)
+        → length image < start + size
+        → made rows.WriteRange (range_line address start size) token image ≡ None }
+    ensures rest { (address start token : ℕ) (image : List ℕ) → start < length image
+        → made rows.WriteRest (rest_line address start) token image
+        ≡ made rows.Write (write_line address (drop start image)) token [] }
+    ensures past_rest { (address start token : ℕ) (image : List ℕ) → length image ≤ start
+        → made rows.WriteRest (rest_line address start) token image ≡ None }
+    ensures page { (number count address family start token : ℕ) (image : List ℕ)
+        → start < length image
+        → made rows.ImageBlock (page_line number count address family start) token image
+        ≡ made rows.Block (block_line number count address family (page_of (drop start image)))
+        token [] }
+    ensures past_page { (number count address family start token : ℕ) (image : List ℕ)
+        → length image ≤ start
+        → made rows.ImageBlock (page_line number count address family start) token image ≡ None }
+    ensures size { (bytes : List ℕ) → length (page_of bytes) ≡ 256 }
+    ensures bytes { (bytes : List ℕ) (i : ℕ) → i < 256
+        → get_or (page_of bytes) i 0 ≡ get_or bytes i 255 }
 {}
