@@ -35,7 +35,7 @@ json_note =
 -- the line of the usage on an image
 abbrev pub image_note : List ℕ
 image_note =
-    codes "IMAGE   a file of 1 to 16777216 bytes; for plan and load at most as many as there is room for\n"
+    codes "IMAGE   a file of 1 to 16777216 bytes; for plan, load and stage no more than there is room for\n"
 
 -- the lines of the usage on an argument
 abbrev pub word_note : Word → List ℕ

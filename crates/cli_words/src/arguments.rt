@@ -107,7 +107,7 @@ impl Word {
                 "JSON    a JSON text of at most 65536 bytes: for table version, singleton, unpartitioned and
         partitions; for otp rollback_required, flash_off, slot_size, rows and secure_boot\n",
             Word::Image | Word::SourceImage =>
-                "IMAGE   a file of 1 to 16777216 bytes; for plan and load at most as many as there is room for\n",
+                "IMAGE   a file of 1 to 16777216 bytes; for plan, load and stage no more than there is room for\n",
             Word::Uf2 =>
                 "UF2     a file of 512 to 33554944 bytes, in blocks of 512; the board judges them, not this command\n",
             Word::Text =>
