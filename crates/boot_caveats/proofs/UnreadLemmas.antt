@@ -1,8 +1,8 @@
 -- Images that fail the rule on rollback rows, and a boot that does not apply it.
-use Rattle.std.proofs.Common.{◌≡◌, ℕ, ◌+◌, ◌&&◌, ◌||◌, Bool, true, false, List, [], ◌∷◌, ◌++◌, map, Option, Some, None, Result, Ok, Err, refl, sym, ap, ◌∙◌}
+use Rattle.std.proofs.Common.{◌≡◌, ◌&&◌, ◌||◌, Bool, true, false, List, [], ◌∷◌, ◌++◌, Option, Some, None, Result, Ok, Err, refl, sym, ap, ◌∙◌}
 use Rattle.std.specs.Prelude.{option_to_list}
 use Rattle.std.specs.Bool.{Decides}
-use Rattle.std.specs.List.{flat_map, list_any, range_with_len}
+use Rattle.std.specs.List.{flat_map, list_any}
 use Rattle.std.specs.Option.{option_map_or}
 use Rattle.pico_board.specs.declared.boot.Cpu.{Cpu}
 use Rattle.pico_board.specs.declared.boot.BootKind.{BootKind}
@@ -19,9 +19,9 @@ use Rattle.boot_reasons.specs.declared.looks.UnitReport.{UnitReport}
 use Rattle.slot_caveats.specs.declared.caveat.Caveat.TheVariants.{MayStart}
 use Rattle.slot_caveats.specs.Listing.{caveat_if}
 use Rattle.boot_caveats.specs.ChoiceCaveats.{started_window}
-use Rattle.boot_caveats.specs.ImageCaveats.{is_at, is_doubtful, is_window, look_may_start, may_start, second_may_start}
+use Rattle.boot_caveats.specs.ImageCaveats.{is_at, is_doubtful, look_may_start, may_start, second_may_start}
 use Rattle.boot_caveats.specs.ImageRules.{IsRollback, StartsUnread, below, required}
-use Rattle.boot_caveats.specs.Unread.{fails_rollback, has_rollback_fault, is_rollback, unread_content, unread_row, unread_window}
+use Rattle.boot_caveats.specs.Unread.{fails_rollback, has_rollback_fault, is_rollback, unread_content, unread_window}
 use Rattle.boot_caveats.proofs.ChoiceCaveatLemmas.{in-starts, starts-in}
 use Rattle.boot_caveats.proofs.WindowLemmas.{window-decides}
 

@@ -1,7 +1,6 @@
 -- Where the choice of a boot depends on a rule that the chip may have otherwise, as functions.
 use Rattle.std.specs.Prelude.{ℕ, ◌+◌, ◌-◌, ◌==◌, ◌&&◌, ◌||◌, nat_le, not, Bool, true, false, if◌then◌else◌, List, [], ◌++◌, find, is_some, position, slice_get, Option, Some, None, option_map, option_and_then, option_to_list, is_ok}
 use Rattle.std.specs.List.{list_any}
-use Rattle.std.specs.Option.{option_map_or}
 use Rattle.pico_board.specs.declared.boot.Cpu.{Cpu}
 use Rattle.pico_board.specs.declared.boot.Cpu.TheVariants.{Arm, Riscv}
 use Rattle.pico_board.specs.declared.boot.BootKind.{BootKind}
@@ -52,13 +51,14 @@ has_normal_image c cpu w = is_ok (image_at c w cpu false)
 abbrev pub has_second_image : Content → Bool
 has_second_image c = has_executable (window_bytes c (flash_from c SMALLEST_SLOT))
 
--- without a table, and with slots of the smallest size: no image starts, and slot 0 has an image;
--- no image starts, and slot 1 has one, or the flash has an image from slot 1 on
+-- slot 0 has an image, and the whole flash, which begins with the same bytes, has none
 abbrev pub first_slot_image : Content → Cpu → Decision → Option Caveat
 first_slot_image c cpu d =
     let w = slot_window SMALLEST_SLOT 0 in
     caveat_if (lacks_image d && has_normal_image c cpu w) (SlotImage w)
 
+-- slot 1 has an image, and the whole flash none; or, whatever the decision, one may begin in slot 1
+-- that goes on behind it
 abbrev pub second_slot_image : Content → Cpu → Decision → Option Caveat
 second_slot_image c cpu d =
     let w = slot_window SMALLEST_SLOT 1 in
@@ -68,6 +68,7 @@ abbrev pub lone_slot_images : Content → Cpu → Decision → List Caveat
 lone_slot_images c cpu d =
     option_to_list (first_slot_image c cpu d) ++ option_to_list (second_slot_image c cpu d)
 
+-- without a table slots of the smallest size are no boot unit of the model
 abbrev pub slot_images : Content → Cpu → Decision → ℕ → Option TableInForce → List Caveat
 slot_images c cpu d size (Some taken) = []
 slot_images c cpu d size None = if size == SMALLEST_SLOT then lone_slot_images c cpu d else []

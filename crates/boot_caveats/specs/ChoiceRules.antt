@@ -1,5 +1,5 @@
 -- Where the choice of a boot depends on a rule that the chip may have otherwise, as rules.
-use Rattle.std.specs.Prelude.{◌≡◌, ◌≢◌, ◌⊎◌, ℕ, ◌+◌, true, false, List, [], length, slice_get, Some}
+use Rattle.std.specs.Prelude.{◌≡◌, ◌≢◌, ◌⊎◌, ℕ, ◌+◌, false, List, [], length, slice_get, Some}
 use Rattle.pico_board.specs.declared.boot.Cpu.{Cpu}
 use Rattle.pico_board.specs.declared.boot.BootKind.{BootKind}
 use Rattle.pico_board.specs.declared.boot.BootKind.TheVariants.{Update}

@@ -16,3 +16,4 @@ pub mod Unread
 pub mod Reads
 pub mod Caveats
 pub mod Rules
+pub mod Examples

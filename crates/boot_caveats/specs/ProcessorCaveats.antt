@@ -1,5 +1,5 @@
 -- Which images that a boot comes to are for the other processor, as functions.
-use Rattle.std.specs.Prelude.{◌&&◌, not, Bool, false, if◌then◌else◌, List, [], ◌∷◌, ◌++◌, map, Option, Some, None, option_to_list, Result, is_ok}
+use Rattle.std.specs.Prelude.{◌&&◌, not, Bool, if◌then◌else◌, List, [], ◌∷◌, ◌++◌, map, Option, Some, None, option_to_list, Result, is_ok}
 use Rattle.std.specs.List.{filter_map, list_any}
 use Rattle.pico_board.specs.declared.boot.Cpu.{Cpu}
 use Rattle.pico_board.specs.declared.boot.BootKind.{BootKind}

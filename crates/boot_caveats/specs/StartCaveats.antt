@@ -26,7 +26,7 @@ table_in_image c (Bootsel fall) = None
 table_in_image c (Start choice) =
     option_map (TableInImage choice.image.window) (table_place (window_bytes c choice.image.window))
 
--- an image's rollback version is the greatest of its rows
+-- a rollback version raises every bit of so many rows, which have 24 bits each
 abbrev pub is_full : Option ℕ → ℕ → Bool
 is_full None count = false
 is_full (Some version) count = version == 24 * count

@@ -1,6 +1,6 @@
 -- The decision of a boot that does not apply the rule on rollback rows, as a function: rows are
 -- read and raised on a board with secure boot alone, from memory.
-use Rattle.std.specs.Prelude.{ℕ, ◌*◌, ◌/◌, ◌%◌, ◌==◌, ◌||◌, Bool, true, false, if◌then◌else◌, List, length, map, slice_index, Option, Some, None, Result, Ok, Err}
+use Rattle.std.specs.Prelude.{ℕ, ◌*◌, ◌/◌, ◌%◌, ◌==◌, ◌||◌, Bool, true, false, if◌then◌else◌, List, length, map, slice_index, Option, Result, Ok, Err}
 use Rattle.std.specs.List.{range_with_len}
 use Rattle.std.specs.Option.{option_map_or}
 use Rattle.pico_board.specs.declared.boot.Cpu.{Cpu}

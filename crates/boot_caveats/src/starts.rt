@@ -81,7 +81,7 @@ fn first_gap<B: Board>(board: &B, rows: &[u16]) -> Option<u16>
     None
 }
 
-/// Whether an image's rollback version is the greatest for so many rows.
+/// Whether a rollback version raises every bit of so many rows, which have 24 bits each.
 fn is_full(rollback: Option<u16>, count: u32) -> bool
     requires { count ≤ 32 }
     ensures { result ≡ is_full rollback count }
@@ -92,7 +92,7 @@ fn is_full(rollback: Option<u16>, count: u32) -> bool
     }
 }
 
-/// An image's rollback version is the greatest of its rows.
+/// The caveat of a rollback version that raises every bit of its rows.
 fn rollback_full(window: Window, full: bool) -> Option<Caveat>
     ensures { result ≡ caveat_if full (RollbackFull window) }
 {

@@ -1,4 +1,4 @@
--- What follows for the decision of a boot from caveats that are not listed: what the six laws share.
+-- What follows for the decision of a boot from caveats that are not listed: what the laws share.
 use Rattle.std.proofs.Common.{◌≡◌, ◌⊎◌, suc, Bool, true, false, cond, List, [], ◌∷◌, ◌++◌, Option, Some, None, is_some, option_and_then, option_map, refl, sym, ap, ◌∙◌, subst, inl, inr, arith}
 use Rattle.std.specs.Prelude.{Contains, option_to_list}
 use Rattle.std.specs.List.{cons_option, filter_map}

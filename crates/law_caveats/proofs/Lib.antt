@@ -3,6 +3,8 @@ mod ProcessorLaws
 mod ChoiceLaws
 mod WindowLaws
 mod UnreadRowLemmas
+mod LineLemmas
+mod ExampleLemmas
 mod UnreadLaws
 mod MemberLaws
 mod SlotLaws

@@ -22,15 +22,15 @@ use Rattle.slot_choice.specs.declared.unit.SlotUnit.{SlotUnit}
 use Rattle.slot_choice.specs.declared.choice.Choice.{Choice}
 use Rattle.slot_choice.specs.Versions.{better, is_below}
 use Rattle.boot_rules.specs.declared.decision.Decision.{Decision}
-use Rattle.boot_rules.specs.Choosing.{Order, boot_units_in, choice_of, choose, decision_in, decision_of, images_in, of_better, order_of, ordered_choice, unit_choice, version_of_image}
+use Rattle.boot_rules.specs.Choosing.{boot_units_in, choice_of, choose, decision_in, decision_of, images_in, of_better, order_of, ordered_choice, unit_choice, version_of_image}
 use Rattle.boot_rules.specs.Chosen.{Chosen, is_member, is_updated}
-use Rattle.boot_rules.proofs.DecisionLemmas.{chosen-decision, decision-chosen}
+use Rattle.boot_rules.proofs.DecisionLemmas.{chosen-decision}
 use Rattle.boot_rules.proofs.StartLemmas.{chosen-start}
 use Rattle.boot_reasons.specs.declared.looks.UnitReport.{UnitReport}
 use Rattle.boot_reasons.specs.Looks.{report_on, reports_of, second_image}
 use Rattle.boot_reasons.specs.declared.reasons.Reasons.{Reasons}
 use Rattle.boot_reasons.specs.Reasons.{does_report, order_in, reasons_in, reported_decision, reports_in, results_in}
-use Rattle.boot_reasons.proofs.ReasonLemmas.{reasons-only, reasons-right}
+use Rattle.boot_reasons.proofs.ReasonLemmas.{reasons-only}
 use Rattle.boot_reasons.proofs.LookLemmas.{choice-of-unit, takes-choice}
 use Rattle.slot_caveats.specs.declared.caveat.Caveat.{Caveat}
 use Rattle.slot_caveats.specs.declared.caveat.Caveat.TheVariants.{MayStart}
@@ -41,12 +41,12 @@ use Rattle.boot_caveats.specs.ImageCaveats.{is_at, is_doubtful, item_order, late
 use Rattle.boot_caveats.specs.ImageRules.{IsRollback}
 use Rattle.boot_caveats.specs.ProcessorCaveats.{LookedMember, looked_members, members_of, second_looked, updated_in}
 use Rattle.boot_caveats.specs.Unread.{is_rollback, unread_content, unread_window}
-use Rattle.law_caveats.specs.Alternatives.{HasUnreadStart, decision_unread}
-use Rattle.boot_caveats.proofs.ChoiceCaveatLemmas.{starts-in}
+use Rattle.law_caveats.specs.Alternatives.{decision_unread}
 use Rattle.boot_caveats.proofs.CaveatLemmas.{caveats-only}
 use Rattle.law_caveats.proofs.DoubtLemmas.{IsIn, contains-one, decided, in-right, in-windows, reports-when, same-chosen}
 use Rattle.boot_caveats.proofs.UnreadLemmas.{rolled-decides}
 use Rattle.boot_caveats.proofs.WindowLemmas.{window-decides}
+use Rattle.law_caveats.proofs.LineLemmas.{FailsIn, listed-line}
 use Rattle.law_caveats.proofs.UnreadRowLemmas.{same-off, same-units, unread-image, unrolled}
 
 -- ---- the choice of a unit
@@ -459,8 +459,7 @@ module _ (c : Content) (cpu : Cpu) (kind : BootKind) where
       ap started_window (unread-decided
       ∙ (reported-when kind (flash_off c.otp) _ does ∙ ap decision_of (is ∙ takes))) ∙ ap Some at
 
-  module _ (list : List Caveat) (are : AreCaveats c cpu kind list)
-      (never : (w : Window) (why : Why) → IsRollback why → Contains list (MayStart w why) → ⊥) where
+  module _ (list : List Caveat) (are : AreCaveats c cpu kind list) where
     listed : (m : LookedMember) (why : Why) → does_report kind (flash_off c.otp) ≡ true
         → IsIn m (looked_members (reports_of (results_in c cpu) (order_of kind (boot_units_in c cpu)).units
         (updated_in c cpu kind)) (updated_in c cpu kind))
@@ -479,64 +478,26 @@ module _ (c : Content) (cpu : Cpu) (kind : BootKind) where
         (sym (reports-when c cpu kind does)) is) fails rule
         (ap (λ o. is_at o m.window) at ∙ (window-decides m.window m.window).1 refl))))))
 
-    same-choice : does_report kind (flash_off c.otp) ≡ true
-        → choose (λ w t. images_in (unread_content c) cpu w t) (order_of kind (boot_units_in c cpu))
-        ≡ choose (images_in c cpu) (order_of kind (boot_units_in c cpu))
-    same-choice does =
-        elim (ordered-rolled c cpu (order_of kind (boot_units_in c cpu)).units
-        (order_of kind (boot_units_in c cpu)).updated) [
-          | inl e ↦ e
-          | inr is ↦ absurd (never is.member.window is.why is.rule
-              (listed is.member is.why does is.among is.fails is.rule
-              (starts-there _ is.choice is.member.window does refl is.takes is.window)))
-        ]
+    module _ (never : (w : Window) (why : Why) → IsRollback why → Contains list (MayStart w why) → ⊥) where
+      same-choice : does_report kind (flash_off c.otp) ≡ true
+          → choose (λ w t. images_in (unread_content c) cpu w t) (order_of kind (boot_units_in c cpu))
+          ≡ choose (images_in c cpu) (order_of kind (boot_units_in c cpu))
+      same-choice does =
+          elim (ordered-rolled c cpu (order_of kind (boot_units_in c cpu)).units
+          (order_of kind (boot_units_in c cpu)).updated) [
+            | inl e ↦ e
+            | inr is ↦ absurd (never is.member.window is.why is.rule
+                (listed is.member is.why does is.among is.fails is.rule
+                (starts-there _ is.choice is.member.window does refl is.takes is.window)))
+          ]
 
-    pub unread-doubt : Chosen c cpu kind (decision_in (unread_content c) cpu kind)
-    unread-doubt =
-        subst (λ (d : Decision). Chosen c cpu kind d) (sym unread-decided)
-        (same-chosen c cpu kind
-        (choose (λ w t. images_in (unread_content c) cpu w t) (order_of kind (boot_units_in c cpu))) same-choice)
+      pub unread-doubt : Chosen c cpu kind (decision_in (unread_content c) cpu kind)
+      unread-doubt =
+          subst (λ (d : Decision). Chosen c cpu kind d) (sym unread-decided)
+          (same-chosen c cpu kind
+          (choose (λ w t. images_in (unread_content c) cpu w t) (order_of kind (boot_units_in c cpu))) same-choice)
 
 -- ---- exactly where there is such a line
-
--- a member that is looked at, in its report
-abbrev FailsIn : UnitReport → Window → Why → Type 0
-FailsIn look w why = ((look.unit.a ≡ w) × (look.first ≡ Err why))
-    ⊎ ((look.unit.b ≡ Some w) × (look.second ≡ Some (Err why)))
-
-abbrev IsReported : List UnitReport → Window → Why → Type 0
-IsReported looks w why = (look : UnitReport) × Contains looks look × FailsIn look w why
-
-behind-one : (look : UnitReport) (looks : List UnitReport) (w : Window) (why : Why) → IsReported looks w why
-    → IsReported (look ∷ looks) w why
-behind-one look looks w why is = (is.0, (suc is.1.0, omega (arith, is.1.1), is.1.2), is.2)
-
-reported : (looks : List UnitReport) (updated : Option Member) (m : LookedMember) (why : Why)
-    → IsIn m (looked_members looks updated) → m.image ≡ Err why → IsReported looks m.window why
-reported [] updated m why is fails = absurd is
-reported (look ∷ looks) updated m why (inl e) fails = (
-  look,
-  (0, omega arith, refl),
-  inl (ap (λ (x : LookedMember). x.window) e, ap (λ (x : LookedMember). x.image) e ∙ fails),
-)
-reported (look ∷ looks) updated m why (inr is) fails =
-    go look.unit.b refl look.second refl is (λ h. reported looks None m why h fails)
-  where
-    go : (second : Option Window) → look.unit.b ≡ second → (r : Option (Result Started Why)) → look.second ≡ r
-        → IsIn m (second_looked (is_member updated B) second r ++ looked_members looks None)
-        → (IsIn m (looked_members looks None) → IsReported looks m.window why)
-        → IsReported (look ∷ looks) m.window why
-    go None e r f h rest = behind-one look looks m.window why (rest h)
-    go (Some w) e None f h rest = behind-one look looks m.window why (rest h)
-    go (Some w) e (Some image) f (inl one) rest = (
-      look,
-      (0, omega arith, refl),
-      inr (
-        e ∙ ap Some (ap (λ (x : LookedMember). x.window) one),
-        f ∙ ap Some (ap (λ (x : LookedMember). x.image) one ∙ fails),
-      ),
-    )
-    go (Some w) e (Some image) f (inr h) rest = behind-one look looks m.window why (rest h)
 
 -- the images of a report are those of the content
 module _ (c : Content) (cpu : Cpu) where
@@ -574,71 +535,59 @@ module _ (c : Content) (cpu : Cpu) (kind : BootKind) where
       let second = images.1 w two.0 in
       (second.0, same_Some (image_at c w cpu second.0) (Err why) (sym second.1 ∙ two.1))
 
-  other-start : HasUnreadStart c cpu kind → Chosen c cpu kind (decision_unread c cpu kind) → ⊥
-  unfolding reasons_in
-  other-start is chosen =
-      let same = reasons-only c cpu kind is.reasons is.explained in
-      let images = report-images c cpu (order_in c cpu kind).units (order_in c cpu kind).updated is.look
-      (subst (λ (x : Reasons). Contains x.looks.items is.look) same is.looked) in
-      let starts = is.starts.2 in
-      let decided_is = chosen-decision (unread_content c) cpu kind is.starts.0 is.starts.1 in
-      let start = chosen-start c cpu kind starts.0
-      (subst (λ (d : Decision). Chosen c cpu kind d) (sym decided_is ∙ starts.1) chosen) in
-      let counts = start.counts in
-      let trial = is_updated (order_of kind (boot_units_in c cpu)) start.place starts.0.member in
-      let at = sym (valid-window c counts.window cpu trial starts.0.image counts.valid) ∙ starts.2 in
-      let err = fails-image is.look is.window is.why images is.fails in
-      unrolled c is.window cpu trial err.0 starts.0.image is.why
-      (ap (λ v. image_at c v cpu trial) (sym at)
-      ∙ at-valid c counts.window cpu trial starts.0.image counts.valid)
-      err.1 is.rule
+  -- the list has such a line
+  abbrev HasLine : List Caveat → Type 0
+  HasLine list = (w : Window) × (why : Why) × IsRollback why × Contains list (MayStart w why)
 
-  here-start : (Chosen c cpu kind (decision_unread c cpu kind) → ⊥) → HasUnreadStart c cpu kind
-  unfolding reasons_in
-  here-start never = go (does_report kind (flash_off c.otp)) refl
-    where
-      order : Order
-      order = order_of kind (boot_units_in c cpu)
+  module _ (list : List Caveat) (are : AreCaveats c cpu kind list) where
+    other-start : HasLine list → Chosen c cpu kind (decision_unread c cpu kind) → ⊥
+    unfolding reasons_in
+    other-start line chosen =
+        let told = listed-line c cpu kind list are line.0 line.1 line.2 line.3 in
+        let same = reasons-only c cpu kind are.reasons are.explained in
+        let images = report-images c cpu (order_in c cpu kind).units (order_in c cpu kind).updated told.0.0
+        (subst (λ (x : Reasons). Contains x.looks.items told.0.0) same told.0.1) in
+        let starts = told.1.2 in
+        let decided_is = chosen-decision (unread_content c) cpu kind told.1.0 told.1.1 in
+        let start = chosen-start c cpu kind starts.0
+        (subst (λ (d : Decision). Chosen c cpu kind d) (sym decided_is ∙ starts.1) chosen) in
+        let counts = start.counts in
+        let trial = is_updated (order_of kind (boot_units_in c cpu)) start.place starts.0.member in
+        let at = sym (valid-window c counts.window cpu trial starts.0.image counts.valid) ∙ starts.2 in
+        let err = fails-image told.0.0 line.0 line.1 images told.0.2 in
+        unrolled c line.0 cpu trial err.0 starts.0.image line.1
+        (ap (λ v. image_at c v cpu trial) (sym at)
+        ∙ at-valid c counts.window cpu trial starts.0.image counts.valid)
+        err.1 line.2
 
-      alike : (does_report kind (flash_off c.otp) ≡ true
-          → choose (λ w t. images_in (unread_content c) cpu w t) (order_of kind (boot_units_in c cpu))
-          ≡ choose (images_in c cpu) (order_of kind (boot_units_in c cpu)))
-          → Chosen c cpu kind (decision_unread c cpu kind)
-      alike agrees =
-          subst (λ (d : Decision). Chosen c cpu kind d) (sym (unread-decided c cpu kind))
-          (same-chosen c cpu kind
-          (choose (λ w t. images_in (unread_content c) cpu w t) (order_of kind (boot_units_in c cpu))) agrees)
+    here-line : (Chosen c cpu kind (decision_unread c cpu kind) → ⊥) → HasLine list
+    here-line never = go (does_report kind (flash_off c.otp)) refl
+      where
+        alike : (does_report kind (flash_off c.otp) ≡ true
+            → choose (λ w t. images_in (unread_content c) cpu w t) (order_of kind (boot_units_in c cpu))
+            ≡ choose (images_in c cpu) (order_of kind (boot_units_in c cpu)))
+            → Chosen c cpu kind (decision_unread c cpu kind)
+        alike agrees =
+            subst (λ (d : Decision). Chosen c cpu kind d) (sym (unread-decided c cpu kind))
+            (same-chosen c cpu kind
+            (choose (λ w t. images_in (unread_content c) cpu w t) (order_of kind (boot_units_in c cpu))) agrees)
 
-      clash : (b : Bool) → b ≡ false → b ≡ true → ⊥
-      clash b e f = cc
+        clash : (b : Bool) → b ≡ false → b ≡ true → ⊥
+        clash b e f = cc
 
-      go : (does : Bool) → does_report kind (flash_off c.otp) ≡ does → HasUnreadStart c cpu kind
-      go false off = absurd (never (alike (λ on. absurd (clash (does_report kind (flash_off c.otp)) off on))))
-      go true on = elim (ordered-rolled c cpu (order_of kind (boot_units_in c cpu)).units
-          (order_of kind (boot_units_in c cpu)).updated) [
-            | inl e ↦ absurd (never (alike (λ again. e)))
-            | inr is ↦
-                let looked = reported (reports_of (results_in c cpu) (order_of kind (boot_units_in c cpu)).units
-                (order_of kind (boot_units_in c cpu)).updated) (order_of kind (boot_units_in c cpu)).updated is.member is.why
-                is.among is.fails in
-                let there = starts-there c cpu kind _ is.choice is.member.window on refl is.takes is.window in
-                record {
-                  reasons = reasons_in c cpu kind;
-                  look = looked.0;
-                  window = is.member.window;
-                  why = is.why;
-                  explained = reasons-right c cpu kind;
-                  looked = subst (λ (looks : List UnitReport). Contains looks looked.0)
-                      (sym (reports-when c cpu kind on)) looked.1;
-                  fails = looked.2;
-                  rule = is.rule;
-                  starts = (
-                    decision_in (unread_content c) cpu kind,
-                    decision-chosen (unread_content c) cpu kind,
-                    starts-in (decision_in (unread_content c) cpu kind) is.member.window there,
-                  );
-                }
-          ]
+        go : (does : Bool) → does_report kind (flash_off c.otp) ≡ does → HasLine list
+        go false off = absurd (never (alike (λ on. absurd (clash (does_report kind (flash_off c.otp)) off on))))
+        go true on = elim (ordered-rolled c cpu (order_of kind (boot_units_in c cpu)).units
+            (order_of kind (boot_units_in c cpu)).updated) [
+              | inl e ↦ absurd (never (alike (λ again. e)))
+              | inr is ↦ (
+                is.member.window,
+                is.why,
+                is.rule,
+                listed c cpu kind list are is.member is.why on is.among is.fails is.rule
+                    (starts-there c cpu kind _ is.choice is.member.window on refl is.takes is.window),
+              )
+            ]
 
-  pub unread-exactly : HasUnreadStart c cpu kind ↔ (Chosen c cpu kind (decision_unread c cpu kind) → ⊥)
-  unread-exactly = (other-start, here-start)
+    pub unread-exactly : HasLine list ↔ (Chosen c cpu kind (decision_unread c cpu kind) → ⊥)
+    unread-exactly = (other-start, here-line)

@@ -1,6 +1,6 @@
 -- Decisions by other rules than those of Chosen. The chip may have each of these rules
 -- instead.
-use Rattle.std.specs.Prelude.{◌≡◌, ◌≢◌, ◌⊎◌, Contains, ℕ, zero, suc, ◌+◌, ◌-◌, ◌/◌, ◌*◌, ◌&&◌, nat_le, Bool, false, if◌then◌else◌, List, [], ◌∷◌, length, drop, find, reverse, slice_get, Option, Some, None, option_map, Result, Ok, Err}
+use Rattle.std.specs.Prelude.{◌≢◌, ◌⊎◌, ℕ, zero, suc, ◌+◌, ◌-◌, ◌/◌, ◌*◌, ◌&&◌, nat_le, Bool, false, if◌then◌else◌, List, [], ◌∷◌, length, drop, find, reverse, slice_get, Option, Some, None, option_map, Result, Ok, Err}
 use Rattle.std.specs.List.{list_any}
 use Rattle.std.specs.Option.{option_map_or, option_or}
 use Rattle.std.specs.Result.{result_ok}
@@ -46,14 +46,10 @@ use Rattle.boot_rules.specs.Choosing.{Order, boot_units_in, choose, decision_in,
 use Rattle.boot_rules.specs.Chosen.{Chosen, ChosenFrom}
 use Rattle.boot_rules.specs.declared.slots.SlotFault.TheVariants.{Loop}
 use Rattle.boot_rules.specs.Tables.{answer_in_block, answer_in_loop, found_of, slot_window, table_of_content}
-use Rattle.boot_reasons.specs.declared.looks.UnitReport.{UnitReport}
-use Rattle.boot_reasons.specs.declared.reasons.Reasons.{Reasons}
 use Rattle.boot_reasons.specs.Reasons.{reported_decision}
-use Rattle.boot_reasons.specs.Rules.{IsExplained}
 use Rattle.boot_caveats.specs.ChoiceCaveats.{other_cpu}
 use Rattle.boot_caveats.specs.ChoiceRules.{IsTableless}
 use Rattle.boot_caveats.specs.ImageCaveats.{ends_late}
-use Rattle.boot_caveats.specs.ImageRules.{IsRollback, StartsUnread}
 use Rattle.slot_caveats.specs.SlotCaveats.{begins_table}
 use Rattle.boot_caveats.specs.Unread.{unread_content}
 
@@ -281,17 +277,3 @@ decision_of_both c cpu kind =
 
 abbrev pub decision_unread : Content → Cpu → BootKind → Decision
 decision_unread c cpu kind = decision_in (unread_content c) cpu kind
-
--- the condition of the line `may-start` with such a fault: an image that is looked at fails the
--- rule on rollback rows, and a boot that does not apply it starts in its window
-pub record HasUnreadStart (c : Content) (cpu : Cpu) (kind : BootKind) : Type 0 where
-  pub reasons : Reasons
-  pub look : UnitReport
-  pub window : Window
-  pub why : Why
-  pub explained : IsExplained c cpu kind reasons
-  pub looked : Contains reasons.looks.items look
-  pub fails : ((look.unit.a ≡ window) × (look.first ≡ Err why))
-      ⊎ ((look.unit.b ≡ Some window) × (look.second ≡ Some (Err why)))
-  pub rule : IsRollback why
-  pub starts : StartsUnread c cpu kind window

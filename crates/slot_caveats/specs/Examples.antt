@@ -101,12 +101,33 @@ three_sectors flags size one two = record {
 abbrev pub bare : List ℕ
 bare = replicate 0x1000 255
 
--- words of images: for Arm, for RISC-V, and a version of its own
+-- a sector with a loop of two blocks of 388 bytes, at 0x100 and at 0x300
+abbrev pub two_long_blocks : List ℕ
+two_long_blocks =
+    region 0x100 []
+    ++ (region 0x200 (framed (0x10210142 ∷ replicate 92 0x00000101) 0x200)
+    ++ region 0xd00 (framed (0x10210142 ∷ replicate 92 0x00000101) 0xfffffe00))
+
+-- a loop of three blocks, at 0, at 0x200 and at 0x100; the second and the third have a table
+abbrev pub backward_loop : List ℕ
+backward_loop =
+    region 0x100 (framed (0x10210142 ∷ []) 0x200)
+    ++ (region 0x100 (framed (0x0000020a ∷ 0 ∷ []) 0xffffff00)
+    ++ region 0x100 (framed (0x0000020a ∷ 0 ∷ []) 0xffffff00))
+
+-- words of images: for Arm, and for RISC-V
 abbrev pub arm_word : ℕ
 arm_word = 0x10210142
 
 abbrev pub riscv_word : ℕ
 riscv_word = 0x11010142
+
+-- the same of trial images
+abbrev pub arm_trial_word : ℕ
+arm_trial_word = 0x90210142
+
+abbrev pub riscv_trial_word : ℕ
+riscv_trial_word = 0x91010142
 
 -- a sector that begins with a block of these item words, a loop of its own
 abbrev pub table_sector : List ℕ → List ℕ

@@ -6,10 +6,9 @@ ghost use Rattle.pico_board.specs.declared.boot.BootKind.TheVariants.{Normal, Up
 ghost use Rattle.boot_rules.specs.declared.decision.Decision.TheVariants.{Bootsel, Start};
 ghost use Rattle.boot_rules.specs.declared.decision.Fall.{Fall};
 ghost use Rattle.slot_caveats.specs.declared.caveat.Caveat.{Caveat};
-ghost use Rattle.slot_caveats.specs.OtpCaveats.{critical_caveats, raw_critical, short_slots};
 ghost use Rattle.boot_caveats.specs.ChoiceCaveats.{update_of_nothing};
 ghost use Rattle.boot_caveats.specs.PartCaveats.{ignore_flags, no_read, of_parts};
-ghost use Rattle.slot_caveats.specs.Examples.{first, first_pair, in_slot, lone_third, otp_from, part_with, part_without_read, second, start_of, table_of_parts};
+ghost use Rattle.slot_caveats.specs.Examples.{first, first_pair, in_slot, lone_third, part_with, part_without_read, second, start_of, table_of_parts};
 
 /// The ignore flags of a pair, bits 9 and 10, are compared in the B; the A has no owner.
 pub fn flags_of_pairs()

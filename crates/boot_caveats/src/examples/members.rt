@@ -7,7 +7,7 @@ ghost use Rattle.boot_rules.specs.Tables.{slot_window};
 ghost use Rattle.slot_caveats.specs.declared.caveat.Caveat.{Caveat};
 ghost use Rattle.boot_caveats.specs.MemberCaveats.{absolute_map, bare_hash, is_moving_map, long_definition};
 ghost use Rattle.slot_caveats.specs.Sought.{is_long_definition};
-ghost use Rattle.slot_caveats.specs.Examples.{arm_word, bare, block_with, map_item, map_words, sector_with, three_sectors};
+ghost use Rattle.slot_caveats.specs.Examples.{arm_word, bare, block_with, map_item, map_words, sector_with, three_sectors, two_long_blocks};
 
 /// A block of more than 384 bytes that would suit a processor otherwise.
 pub fn lengths_of_definitions()
@@ -24,6 +24,8 @@ pub fn lengths_of_definitions()
         (slot_window 0x1000 0) ≡ Some (Caveat.LongDefinition (slot_window 0x1000 0) 0x100) }
     ensures short { long_definition (three_sectors 0 0 (sector_with (arm_word ∷ [])) bare) Arm
         (slot_window 0x1000 0) ≡ None }
+    ensures last_of_two { long_definition (three_sectors 0 0 two_long_blocks bare) Arm
+        (slot_window 0x1000 0) ≡ Some (Caveat.LongDefinition (slot_window 0x1000 0) 0x300) }
 {}
 
 /// An absolute map with an entry whose first word is neither 0 nor its second word.

@@ -1,34 +1,29 @@
 //! Worked examples of the definitions, proved by computing: each is the `ensures` of a function
 //! that does nothing.
 
-pub mod flashes;
 pub mod lines;
 pub mod members;
+pub mod windows;
 
-ghost use Rattle.std.specs.Prelude.{◌≡◌, ℕ, [], ◌∷◌, ◌++◌, None, Some, Ok, Err, true, false};
+ghost use Rattle.std.specs.Prelude.{◌≡◌, [], ◌∷◌, None, Some, Ok, Err, true, false};
 ghost use Rattle.pico_board.specs.declared.boot.BootKind.TheVariants.{Normal, Update};
-ghost use Rattle.pico_board.specs.declared.boot.Cpu.TheVariants.{Arm, Riscv};
 ghost use Rattle.image_check.specs.declared.why.Why.{Why};
 ghost use Rattle.image_check.specs.declared.why.Why.TheVariants.{Below};
 ghost use Rattle.image_check.specs.declared.why.EntryFault.{EntryFault};
 ghost use Rattle.image_def.specs.declared.fault.DefFault.{DefFault};
 ghost use Rattle.load_map.specs.declared.load.MapFault.{MapFault};
 ghost use Rattle.block_loop.specs.declared.fault.LoopFault.{LoopFault};
-ghost use Rattle.part_table.specs.declared.table.TableFault.{TableFault};
 ghost use Rattle.slot_choice.specs.declared.unit.Member.TheVariants.{A, B};
-ghost use Rattle.boot_rules.specs.declared.slots.SlotFault.{SlotFault};
 ghost use Rattle.boot_rules.specs.declared.decision.Decision.TheVariants.{Bootsel, Start};
 ghost use Rattle.boot_rules.specs.declared.decision.Fall.{Fall};
 ghost use Rattle.boot_rules.specs.Tables.{slot_window};
 ghost use Rattle.boot_reasons.specs.declared.looks.UnitReason.{UnitReason};
 ghost use Rattle.worked_flashes.specs.Images.{image_of_version};
 ghost use Rattle.slot_caveats.specs.declared.caveat.Caveat.{Caveat};
-ghost use Rattle.slot_caveats.specs.OtpCaveats.{otp_caveats, raw_flags, raw_slot_size, secure_boot};
-ghost use Rattle.slot_caveats.specs.TableCaveats.{short_flash, table_tie, unread_caveats, unread_families};
-ghost use Rattle.boot_caveats.specs.ChoiceCaveats.{first_tie, lacks_image, moved_by, other_cpu, slot_images, update_of_slot};
+ghost use Rattle.boot_caveats.specs.ChoiceCaveats.{first_tie, moved_by, update_of_slot};
 ghost use Rattle.boot_caveats.specs.StartCaveats.{is_filled, row_caveats};
 ghost use Rattle.boot_caveats.specs.ImageCaveats.{begins_otherwise, ends_late, first_places, is_doubtful, look_may_start, may_start, read_windows, reads_blocks};
-ghost use Rattle.slot_caveats.specs.Examples.{block_with, first, first_pair, in_slot, lone_report, lone_third, otp_from, pair_report, part_with, second, start_of, table_of_parts, taken_by, third};
+ghost use Rattle.slot_caveats.specs.Examples.{block_with, first, first_pair, in_slot, lone_report, lone_third, otp_from, pair_report, second, start_of, taken_by, third};
 
 /// A tie of the first unit that takes an image. The window that is taken comes first.
 pub fn ties_of_units()
@@ -81,6 +76,8 @@ pub fn rows_of_images()
         ≡ Caveat.RollbackRows first ∷ Caveat.RollbackGap 0xc6 ∷ [] }
     ensures alone { row_caveats (otp_from 0xc0 (7 ∷ 2 ∷ 3 ∷ [])) first None (0xc0 ∷ [])
         ≡ Caveat.RollbackRows first ∷ [] }
+    ensures full_with_gap { row_caveats (otp_from 0xc0 (5 ∷ 5 ∷ 0 ∷ [])) first (Some 24) (0xc0 ∷ [])
+        ≡ Caveat.RollbackRows first ∷ Caveat.RollbackFull first ∷ Caveat.RollbackGap 0xc0 ∷ [] }
 {}
 
 /// Values that are one less than a power of two, as 0 is.
@@ -134,6 +131,8 @@ pub fn rules_that_are_in_doubt()
     ensures runtime { is_doubtful (Why.Map (MapFault.Runtime 3)) ≡ true }
     ensures storage { is_doubtful (Why.Map (MapFault.Storage 3)) ≡ false }
     ensures entry { is_doubtful (Why.Entry EntryFault.Pc) ≡ true }
+    ensures entry_table { is_doubtful (Why.Entry EntryFault.Table) ≡ true }
+    ensures entry_in_block { is_doubtful (Why.Entry EntryFault.InBlock) ≡ true }
     ensures delta { is_doubtful Why.Delta ≡ true }
     ensures digest { is_doubtful Why.Digest ≡ false }
     ensures trial { is_doubtful Why.Trial ≡ false }

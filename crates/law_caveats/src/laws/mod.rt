@@ -1,6 +1,6 @@
 //! Laws of the other rules, proved: each is the `ensures` of a function that does nothing.
 
-ghost use Rattle.std.specs.Prelude.{◌≡◌, ◌↔◌, ℕ, Contains, List};
+ghost use Rattle.std.specs.Prelude.{◌↔◌, ℕ, Contains, List};
 ghost use Rattle.pico_board.specs.declared.boot.Cpu.{Cpu};
 ghost use Rattle.pico_board.specs.declared.boot.BootKind.{BootKind};
 ghost use Rattle.pico_board.specs.declared.window.Window.{Window};
@@ -12,7 +12,7 @@ ghost use Rattle.slot_caveats.specs.declared.caveat.Caveat.TheVariants.{OtherPro
 ghost use Rattle.image_check.specs.declared.why.Why.{Why};
 ghost use Rattle.boot_caveats.specs.ImageRules.{IsRollback};
 ghost use Rattle.boot_caveats.specs.Rules.{AreCaveats};
-ghost use Rattle.law_caveats.specs.Alternatives.{ChosenOfBoth, HasUnreadStart, ChosenWithSlots, decision_early, decision_last, decision_of_both, decision_ordered, decision_slots, decision_typed, decision_unmoved, decision_unread};
+ghost use Rattle.law_caveats.specs.Alternatives.{ChosenOfBoth, ChosenWithSlots, decision_early, decision_last, decision_of_both, decision_ordered, decision_slots, decision_typed, decision_unmoved, decision_unread};
 
 /// The chip may try the other processor where no image starts. Without its caveat such a boot
 /// decides as the model does.
@@ -87,14 +87,15 @@ pub fn no_doubt_of_the_table_order()
         → Chosen c cpu kind (decision_ordered c cpu kind) }
 {}
 
-/// The chip may not apply the rule on rollback rows. Without the caveat of an image that fails this
-/// rule such a boot decides as the model does; it decides otherwise exactly where the condition of
-/// this caveat holds.
+/// The chip may not apply the rule on rollback rows. Such a boot decides otherwise than the model
+/// exactly where the caveat of an image that fails this rule is listed.
 pub fn no_doubt_of_rollback_rows()
     ensures same { (c : Content) (cpu : Cpu) (kind : BootKind) (list : List Caveat)
         → AreCaveats c cpu kind list
         → ((w : Window) (why : Why) → IsRollback why → Contains list (MayStart w why) → ⊥)
         → Chosen c cpu kind (decision_unread c cpu kind) }
-    ensures exactly { (c : Content) (cpu : Cpu) (kind : BootKind)
-        → HasUnreadStart c cpu kind ↔ (Chosen c cpu kind (decision_unread c cpu kind) → ⊥) }
+    ensures exactly { (c : Content) (cpu : Cpu) (kind : BootKind) (list : List Caveat)
+        → AreCaveats c cpu kind list
+        → ((w : Window) × (why : Why) × IsRollback why × Contains list (MayStart w why))
+        ↔ (Chosen c cpu kind (decision_unread c cpu kind) → ⊥) }
 {}

@@ -1,13 +1,13 @@
 //! Worked examples of what stands in the table slots, proved by computing: each is the `ensures` of
 //! a function that does nothing.
 
-ghost use Rattle.std.specs.Prelude.{◌≡◌, [], ◌∷◌, ◌++◌, None, Some, Ok, Err, false, true};
+ghost use Rattle.std.specs.Prelude.{◌≡◌, [], ◌∷◌, None, Some, Ok, Err, false, true};
 ghost use Rattle.block_loop.specs.declared.fault.LoopFault.{LoopFault};
 ghost use Rattle.part_table.specs.declared.table.TableFault.{TableFault};
 ghost use Rattle.boot_rules.specs.declared.slots.SlotFault.{SlotFault};
 ghost use Rattle.boot_rules.specs.Tables.{slot_window};
 ghost use Rattle.slot_caveats.specs.declared.caveat.Caveat.{Caveat};
-ghost use Rattle.slot_caveats.specs.SlotCaveats.{has_other_order, image_in_slot, is_executable, slot_end, table_fault};
+ghost use Rattle.slot_caveats.specs.SlotCaveats.{has_other_order, image_in_slot, is_executable, slot_caveats, slot_end, table_fault};
 ghost use Rattle.slot_caveats.specs.Examples.{across, arm_word, bare, block_with, in_slot, sector_with, six_sectors, table_of_parts, table_sector, three_sectors};
 
 /// The first IMAGE_TYPE item says whether a block is executable, whatever else it says.
@@ -43,6 +43,10 @@ pub fn ends_of_slots()
     ensures table { slot_end (six_sectors (across 0x2000)) in_slot (slot_window 0x2000 0) ≡ None }
     ensures least { slot_end (six_sectors (across 0x2000)) None (slot_window 0x1000 0) ≡ None }
     ensures second { slot_end (six_sectors (across 0x2000)) None (slot_window 0x2000 1) ≡ None }
+    ensures before_fault { slot_caveats (six_sectors (across 0x2000)) 0x2000 None
+        (Err (SlotFault.Loop (LoopFault.Broken 0x100))) (Err (SlotFault.Table TableFault.BadItem))
+        ≡ Caveat.SlotEnd (slot_window 0x2000 0) 0x100
+        ∷ Caveat.FaultyTable 1 TableFault.BadItem ∷ [] }
 {}
 
 /// The faults of a table that are told: not its digest's, and not the range's of a short flash.

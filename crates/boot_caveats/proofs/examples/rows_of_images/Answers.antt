@@ -30,3 +30,7 @@ returns-clause-gap c = refl
 pub returns-clause-alone : goal.returns-clause-alone
 unfolding is_filled_from
 returns-clause-alone c = refl
+
+pub returns-clause-full_with_gap : goal.returns-clause-full_with_gap
+unfolding is_filled_from
+returns-clause-full_with_gap c = refl

@@ -1,4 +1,4 @@
-use Rattle.std.proofs.Common.{◌≡◌, ◌<◌, ◌≤◌, true, false, arith, ap, subst, sym, ◌∙◌}
+use Rattle.std.proofs.Common.{◌≡◌, ◌<◌, ◌≤◌, ap, subst, sym, ◌∙◌}
 use Rattle.load_map.specs.Loads.{entry_count}
 use Rattle.boot_caveats.specs.MemberCaveats.{entry_word, is_moving, moves}
 use Rattle.boot_caveats.proofs.MemberLemmas.{any-here, any-more, any-none, any-start}

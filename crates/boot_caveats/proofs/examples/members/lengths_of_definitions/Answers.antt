@@ -31,3 +31,7 @@ returns-clause-told c = refl
 pub returns-clause-short : goal.returns-clause-short
 unfolding def_of loop_of follow block_from block_at front_block item_words frame size_of word_of word_bytes
 returns-clause-short c = refl
+
+pub returns-clause-last_of_two : goal.returns-clause-last_of_two
+unfolding def_of loop_of follow block_from block_at front_block item_words frame size_of word_of word_bytes
+returns-clause-last_of_two c = refl

@@ -26,3 +26,7 @@ returns-clause-least c = refl
 pub returns-clause-second : goal.returns-clause-second
 unfolding loop_of follow block_from block_at front_block item_words frame size_of word_of word_bytes
 returns-clause-second c = refl
+
+pub returns-clause-before_fault : goal.returns-clause-before_fault
+unfolding loop_of follow block_from block_at front_block item_words frame size_of word_of word_bytes
+returns-clause-before_fault c = refl

@@ -13,17 +13,12 @@ use Rattle.block_codec.specs.Words.{word_of, word_bytes}
 use Rattle.boot_caveats.specs.Caveats.{caveats_by}
 use Rattle.slot_caveats.specs.OtpCaveats.{voted_bits}
 use Rattle.boot_caveats.specs.StartCaveats.{is_filled_from}
-use Rattle.boot_caveats.proofs.examples.flashes.caveats_of_flashes.Goals as goal
+use Rattle.law_caveats.proofs.examples.flashes.caveats_of_flashes.Goals as goal
 
 pub returns-clause-none : goal.returns-clause-none
 unfolding caveats_by voted_bits reasons_in is_filled_from table_in decision_in image_in def_of loop_of follow block_from block_at
     front_block item_words frame size_of word_of word_bytes
 returns-clause-none c = refl
-
-pub returns-clause-other_processor : goal.returns-clause-other_processor
-unfolding caveats_by voted_bits reasons_in is_filled_from table_in decision_in image_in def_of loop_of follow block_from block_at
-    front_block item_words frame size_of word_of word_bytes
-returns-clause-other_processor c = refl
 
 pub returns-clause-slot_image : goal.returns-clause-slot_image
 unfolding caveats_by voted_bits reasons_in is_filled_from table_in decision_in image_in def_of loop_of follow block_from block_at
@@ -34,8 +29,3 @@ pub returns-clause-requested : goal.returns-clause-requested
 unfolding caveats_by voted_bits reasons_in is_filled_from table_in decision_in image_in def_of loop_of follow block_from block_at
     front_block item_words frame size_of word_of word_bytes
 returns-clause-requested c = refl
-
-pub returns-clause-item_order : goal.returns-clause-item_order
-unfolding caveats_by voted_bits reasons_in is_filled_from table_in decision_in image_in def_of loop_of follow block_from block_at
-    front_block item_words frame size_of word_of word_bytes
-returns-clause-item_order c = refl
