@@ -5,7 +5,7 @@ use Rattle.std.specs.List.{AllByRecursion, flat_map}
 use Rattle.std.specs.Fmt.{digits, digits_onto, digit_glyph}
 use Rattle.std.proofs.lemmas.Bool.{eq-eqb}
 use Rattle.std.proofs.lemmas.Fmt.{length-decimal-le}
-use Rattle.byteorder.specs.Endian.{little_bytes, little_number}
+use Rattle.byteorder.specs.Endian.{little_number}
 use Rattle.byteorder.specs.Numbers.{little_from-lt}
 use Rattle.hex.specs.Hex.{IsBytes, lower_digits}
 use Rattle.hex.proofs.HexLemmas.{length-encode_with}
@@ -46,6 +46,7 @@ use Rattle.script_text.specs.declared.script.TheConstants.{MOST_RECORDS, TEXT_LI
 use Rattle.script_text.specs.Comments.{action_text, command_text, info_text, note_of, read_command_text, read_uf2_text, reboot_text, rows_text, start_and_size_text, uf2_counts, uf2_target, uf2_text}
 use Rattle.script_text.specs.Listing.{comment_text, listed, listed_event, listed_from, numbered}
 use Rattle.script_text.specs.Meaning.{IsWithinLimits}
+use Rattle.script_text.proofs.LimitLemmas.{command-long}
 use Rattle.script_text.specs.Reading.{token_behind}
 use Rattle.law_scripts.proofs.LineOfLemmas.{hex-form, line-says, page-long, words-small}
 use Rattle.law_scripts.proofs.NamedBackLemmas.{IsNamed, named-of, row-named}
@@ -428,11 +429,6 @@ noted-short n note text most small few =
       six-digits n small,
       few,
     )
-
-pub command-long : (command payload : List ℕ) → length command ≡ 32
-    → length (written_event (Command command payload)) ≡ 37 + length payload
-command-long command payload long =
-    omega (arith, long, length-append command (little_bytes 4 (length payload) ++ payload))
 
 abbrev ListedShort : ℕ → EventView → LineView → Type 0
 ListedShort n e line_is = IsShort (numbered (is_hex line_is.row) n (note_of e) (line_text line_is)) e

@@ -4,3 +4,4 @@ mod ProgressLemmas
 pub mod MeaningLemmas
 mod TextLemmas
 mod ListLemmas
+pub mod LimitLemmas

@@ -1,28 +1,15 @@
-//! Worked examples of what the laws speak of, proved by computing: both sides of each limit of a
-//! script, which rows a text of `list` has, the numbers of words that are not of their form, and
+//! Worked examples of what the laws speak of, proved by computing: which rows a text of `list` has, the numbers of words that are not of their form, and
 //! commands that differ in their token.
 
-ghost use Rattle.std.specs.Prelude.{◌≡◌, [], ◌∷◌, codes, filter, replicate};
-ghost use Rattle.boot_script.specs.Events.{Command, PowerOn};
+ghost use Rattle.std.specs.Prelude.{◌≡◌, [], ◌∷◌, codes, filter};
+ghost use Rattle.boot_script.specs.Events.{PowerOn};
 ghost use Rattle.script_words.specs.declared.fault.LineFault.TheVariants.{Value};
 ghost use Rattle.script_words.specs.declared.rows.Row.TheVariants as rows;
 ghost use Rattle.script_words.specs.declared.rows.TheConstants.{ROWS};
-ghost use Rattle.script_text.specs.Meaning.{IsWithinLimits};
 ghost use Rattle.law_scripts.specs.Examples.{exit_xip};
 ghost use Rattle.law_scripts.specs.Faults.{IsWordsFault};
 ghost use Rattle.law_scripts.specs.Listed.{is_in_words, is_listed};
 ghost use Rattle.law_scripts.specs.Tokens.{DifferInToken, IsNoCommand};
-
-/// A script has at most 524,287 records before its end, and at most 67,108,864 bytes: a command's
-/// record has 37 bytes and its payload, and the end one.
-pub fn limits_of_scripts()
-    ensures most_records { IsWithinLimits (replicate 524287 PowerOn) }
-    ensures one_record_more { IsWithinLimits (replicate 524288 PowerOn) → ⊥ }
-    ensures most_bytes { IsWithinLimits
-        (Command (replicate 32 0) (replicate 67108826 0) ∷ []) }
-    ensures one_byte_more { IsWithinLimits
-        (Command (replicate 32 0) (replicate 67108827 0) ∷ []) → ⊥ }
-{}
 
 /// The rows of lines in words, and those of all lines that `list` writes.
 pub fn rows_of_listed_texts()

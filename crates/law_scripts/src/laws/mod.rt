@@ -144,8 +144,8 @@ pub fn listed_texts_are_short()
 {}
 
 /// A line that takes bytes of an image gives what the line with these bytes gives: those of a range
-/// in the image, those from an offset on, or a page of them with 0xff past the image's end. It gives
-/// nothing where the range leaves the image, or where the offset is at its end or past it.
+/// in the image, those from an offset on, or a page of them with 0xff past the image's end. It
+/// gives nothing where the range leaves the image, or where the offset is at its end or past it.
 pub fn image_words_take_bytes_of_the_image()
     ensures range { (address start size token : ℕ) (image : List ℕ)
         → start + size ≤ length image

@@ -12,6 +12,7 @@ ghost use Rattle.script_text.specs.declared.script.TextError.TheVariants.{Line};
 ghost use Rattle.script_text.specs.declared.script.TextFault.TheVariants.{BehindEnd, Image, TooLong, TooMany, Words};
 ghost use Rattle.script_text.specs.Comments.{command_text};
 ghost use Rattle.script_text.specs.Listing.{listed};
+ghost use Rattle.script_text.specs.Meaning.{IsWithinLimits};
 ghost use Rattle.script_text.specs.Reading.{Adds_event, Ends, Passed, lines_of, script_of, text_events, token_behind};
 ghost use Rattle.script_text.specs.Examples.{before, block_note, info_note, note, reboot_note, step};
 
@@ -77,7 +78,8 @@ pub fn comments_of_blocks()
 /// Events are numbered from 0, behind a line without hexadecimal bytes and above each other one.
 pub fn listed_scripts()
     ensures none { listed [] ≡ codes "end\n" }
-    ensures two { listed (PowerOn ∷ Reset Bootsel ∷ []) ≡ codes "power # 0\nreset bootsel # 1\nend\n" }
+    ensures two { listed (PowerOn ∷ Reset Bootsel ∷ [])
+        ≡ codes "power # 0\nreset bootsel # 1\nend\n" }
     ensures second { listed (PowerOn ∷ Command (replicate 32 0) [] ∷ Buy ∷ [])
         ≡ codes "power # 0\n# 1 command bad-magic\ncommand 00000000000000000000000000000000"
         ++ codes "00000000000000000000000000000000\nbuy # 2\nend\n" }
@@ -94,8 +96,8 @@ pub fn lines_of_texts()
 /// The token behind a command is one more than its own, whatever its magic word.
 pub fn tokens()
     ensures other { token_behind 7 PowerOn ≡ 7 }
-    ensures command { token_behind 7 (Command (0 ∷ 0 ∷ 0 ∷ 0 ∷ 0x41 ∷ 0 ∷ 0 ∷ 0 ∷ replicate 24 0) [])
-        ≡ 0x42 }
+    ensures command { token_behind 7
+        (Command (0 ∷ 0 ∷ 0 ∷ 0 ∷ 0x41 ∷ 0 ∷ 0 ∷ 0 ∷ replicate 24 0) []) ≡ 0x42 }
     ensures last { token_behind 7
         (Command (0 ∷ 0 ∷ 0 ∷ 0 ∷ 255 ∷ 255 ∷ 255 ∷ 255 ∷ replicate 24 0) []) ≡ 0 }
 {}
@@ -139,4 +141,15 @@ pub fn limits_of_texts()
     ensures text { TEXT_LIMIT ≡ 209715200 }
     ensures records { MOST_RECORDS ≡ 524287 }
     ensures end_alone { script_of [] ≡ 0 ∷ [] }
+{}
+
+/// A script has at most 524,287 records before its end, and at most 67,108,864 bytes: a command's
+/// record has 37 bytes and its payload, and the end one.
+pub fn limits_of_scripts()
+    ensures most_records { IsWithinLimits (replicate 524287 PowerOn) }
+    ensures one_record_more { IsWithinLimits (replicate 524288 PowerOn) → ⊥ }
+    ensures most_bytes { IsWithinLimits
+        (Command (replicate 32 0) (replicate 67108826 0) ∷ []) }
+    ensures one_byte_more { IsWithinLimits
+        (Command (replicate 32 0) (replicate 67108827 0) ∷ []) → ⊥ }
 {}

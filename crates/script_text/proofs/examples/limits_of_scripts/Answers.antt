@@ -1,6 +1,6 @@
 use Rattle.std.proofs.Common.{arith, refl, replicate}
-use Rattle.law_scripts.proofs.LimitLemmas.{command-past, command-within, powers-past, powers-within}
-use Rattle.law_scripts.proofs.examples.limits_of_scripts.Goals as goal
+use Rattle.script_text.proofs.LimitLemmas.{command-past, command-within, powers-past, powers-within}
+use Rattle.script_text.proofs.examples.limits_of_scripts.Goals as goal
 
 pub returns-clause-most_records : goal.returns-clause-most_records
 returns-clause-most_records c = powers-within 524287 (omega arith)
