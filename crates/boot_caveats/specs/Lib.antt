@@ -16,4 +16,3 @@ pub mod Unread
 pub mod Reads
 pub mod Caveats
 pub mod Rules
-pub mod Examples

@@ -6,6 +6,7 @@ use Rattle.pico_board.specs.Content.{Content}
 use Rattle.block_codec.specs.Blocks.{BlockView}
 use Rattle.image_def.specs.declared.started.Started.{Started}
 use Rattle.image_def.specs.Examples.{started_in}
+use Rattle.image_check.specs.declared.why.Why.{Why}
 use Rattle.part_table.specs.declared.table.Table.{Table}
 use Rattle.slot_choice.specs.declared.unit.Member.TheVariants.{A, B}
 use Rattle.slot_choice.specs.declared.choice.Choice.{Choice}
@@ -14,6 +15,7 @@ use Rattle.boot_rules.specs.declared.slots.SlotFault.{SlotFault}
 use Rattle.worked_flashes.specs.Flashes.{framed, region, rows_with, several}
 use Rattle.worked_flashes.specs.Images.{image_of_version}
 use Rattle.worked_flashes.specs.Tables.{sectors, window_at}
+use Rattle.boot_caveats.specs.ProcessorCaveats.{LookedMember}
 use Rattle.slot_caveats.specs.Examples.{arm_word, bare, block_with, lone_third, riscv_word, sector_with, table_sector, three_sectors}
 
 -- each window from an offset on has an image, whether or not a trial image is allowed
@@ -131,3 +133,7 @@ second_slot_start = record {
   other = Some (window_at 0 0x1000);
   updated = false;
 }
+
+-- a member in the second sector, with this image; a trial image is allowed in it or not
+abbrev pub looked : Result Started Why → Bool → LookedMember
+looked image trial = record { window = window_at 0x1000 0x1000; image = image; trial = trial }

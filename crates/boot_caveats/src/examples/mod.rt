@@ -3,7 +3,6 @@
 
 pub mod lines;
 pub mod members;
-pub mod windows;
 
 ghost use Rattle.std.specs.Prelude.{◌≡◌, [], ◌∷◌, None, Some, Ok, Err, true, false};
 ghost use Rattle.pico_board.specs.declared.boot.BootKind.TheVariants.{Normal, Update};

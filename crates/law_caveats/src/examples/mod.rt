@@ -3,6 +3,7 @@
 
 pub mod flashes;
 pub mod starts;
+pub mod windows;
 
 ghost use Rattle.std.specs.Prelude.{◌≡◌, [], ◌∷◌, None, Some, Ok, true, false};
 ghost use Rattle.pico_board.specs.declared.boot.BootKind.TheVariants.{Normal};

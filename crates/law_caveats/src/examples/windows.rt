@@ -1,5 +1,5 @@
-//! Worked examples of what stands in windows, proved by computing: each is the `ensures` of a
-//! function that does nothing.
+//! Worked examples of caveats of what stands in windows, proved by computing: each is the `ensures`
+//! of a function that does nothing.
 
 ghost use Rattle.std.specs.Prelude.{◌≡◌, [], ◌∷◌, None, Some, Ok, Err, true, false};
 ghost use Rattle.pico_board.specs.declared.boot.Cpu.TheVariants.{Arm};
@@ -14,7 +14,7 @@ ghost use Rattle.boot_caveats.specs.ChoiceCaveats.{slot_images};
 ghost use Rattle.boot_caveats.specs.ImageCaveats.{owned_image};
 ghost use Rattle.boot_caveats.specs.ProcessorCaveats.{other_window};
 ghost use Rattle.boot_caveats.specs.StartCaveats.{table_place};
-ghost use Rattle.boot_caveats.specs.Examples.{looked};
+ghost use Rattle.law_caveats.specs.Examples.{looked};
 ghost use Rattle.slot_caveats.specs.Examples.{arm_trial_word, arm_word, backward_loop, bare, first, in_slot, riscv_trial_word, riscv_word, sector_with, start_of, three_sectors};
 
 /// The first table of a loop that closes, in the loop's order.

@@ -5,7 +5,7 @@ use Rattle.block_codec.specs.Blocks.{frame}
 use Rattle.block_codec.specs.Reading.{block_at, front_block, item_words}
 use Rattle.block_codec.specs.Items.{size_of}
 use Rattle.block_codec.specs.Words.{word_of, word_bytes}
-use Rattle.boot_caveats.proofs.examples.windows.tables_of_loops.Goals as goal
+use Rattle.law_caveats.proofs.examples.windows.tables_of_loops.Goals as goal
 
 pub returns-clause-first : goal.returns-clause-first
 unfolding loop_of follow block_from block_at front_block item_words frame size_of word_of word_bytes
