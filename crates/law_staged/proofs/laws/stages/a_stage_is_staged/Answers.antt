@@ -1,7 +1,7 @@
 use Rattle.pico_board.proofs.ContentLemmas.{byte_at}
 use Rattle.boot_session.proofs.PlanServedLemmas.{Known}
 use Rattle.law_staged.proofs.StagePlanLemmas.{KnownStage, stage-of}
-use Rattle.law_staged.proofs.laws.a_stage_is_staged.Goals as goal
+use Rattle.law_staged.proofs.laws.stages.a_stage_is_staged.Goals as goal
 
 pub returns : goal.returns
 returns c =

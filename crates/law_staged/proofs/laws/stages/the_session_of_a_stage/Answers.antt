@@ -3,7 +3,7 @@ use Rattle.pico_board.proofs.ContentLemmas.{byte_at}
 use Rattle.pico_board.specs.Steps.{after_all}
 use Rattle.boot_session.proofs.PlanServedLemmas.{Known}
 use Rattle.law_staged.proofs.StagePlanLemmas.{KnownStage, stage-as-plan, stage-done, stage-writes}
-use Rattle.law_staged.proofs.laws.the_session_of_a_stage.Goals as goal
+use Rattle.law_staged.proofs.laws.stages.the_session_of_a_stage.Goals as goal
 
 pub returns : goal.returns
 returns c =
