@@ -14,6 +14,8 @@ ghost use Rattle.boot_cuts.specs.declared.answers.Class.TheVariants.{Former, Fin
 ghost use Rattle.boot_cuts.specs.Classes.{IsClass};
 ghost use Rattle.boot_cuts.specs.Contents.{cut_contents};
 ghost use Rattle.boot_cuts.specs.Traces.{trace};
+ghost use Rattle.check_laws.specs.Hosts.{HostWrites, IsHosts};
+ghost use Rattle.check_laws.specs.SessionLaws.{Holds};
 ghost use Rattle.cli_check.specs.Sessions.{is_one_session};
 ghost use Rattle.worked_flashes.specs.Choices.{small_slot};
 ghost use Rattle.worked_flashes.specs.Flashes.{arm_slot, bare_slot, beside_small, data_page};
@@ -40,6 +42,16 @@ pub fn a_script_that_is_swept()
 {
     a_cut_behind_the_image();
     a_cut_within_the_image();
+}
+
+/// It is a host's, and the host writes. Its steps keep to the slot, in which nothing starts before
+/// them, and leave the table.
+pub fn a_script_of_a_host()
+    ensures hosts { IsHosts (beside_small bare_slot) Arm small_script }
+    ensures writes { HostWrites (beside_small bare_slot) Arm small_script }
+    ensures holds { Holds (beside_small bare_slot) Arm longer_steps small_slot }
+{
+    a_cut_behind_the_image();
 }
 
 /// It arms no cut; a Cut event does.
