@@ -18,7 +18,7 @@ use Rattle.script_plan.specs.Commands.{erase_cmd, sent, write_cmd}
 use Rattle.boot_plays.specs.Plays.{moved_machine, powerless}
 use Rattle.boot_machine.specs.Machines.{MachineView}
 use Rattle.check_laws.specs.Hosts.{own_steps}
-use Rattle.worked_flashes.specs.Choices.{small_slot}
+use Rattle.worked_flashes.specs.Choices.{small_former}
 use Rattle.worked_flashes.specs.Flashes.{block_page, data_page, vector_page}
 use Rattle.worked_flashes.specs.Writes.{longer_steps}
 use Rattle.law_cuts.specs.Examples.{small_script}
@@ -44,6 +44,13 @@ pub returns-clause-writes : goal.returns-clause-writes
 unfolding moved_machine sent padded_page table_in decision_in image_in def_of loop_of follow block_from block_at front_block
     item_words frame size_of word_of word_bytes
 returns-clause-writes c = inr (inr (inl (refl, one-step _ refl)))
+
+pub returns-clause-starts : goal.returns-clause-starts
+returns-clause-starts c = (small_former, c.a_cut_behind_the_image.ensures.session.former, refl)
+
+pub returns-clause-keeps : goal.returns-clause-keeps
+returns-clause-keeps c =
+    record { slot = slot c.a_cut_behind_the_image.ensures.session.boot_member; confined = confined }
 
 pub returns-clause-holds : goal.returns-clause-holds
 returns-clause-holds c =
