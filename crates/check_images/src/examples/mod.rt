@@ -4,7 +4,9 @@
 ghost use Rattle.std.specs.Prelude.{◌≡◌, ◌∷◌, [], None, Some, true, false};
 ghost use Rattle.pico_board.specs.declared.Step.TheVariants.{Erase, Program, Raise};
 ghost use Rattle.slot_choice.specs.Examples.{window_at};
-ghost use Rattle.worked_flashes.specs.Choices.{starts_b};
+ghost use Rattle.pico_board.specs.declared.boot.Cpu.TheVariants.{Arm};
+ghost use Rattle.worked_flashes.specs.Choices.{small_former, starts_b};
+ghost use Rattle.worked_flashes.specs.Flashes.{bare_slot, beside_small};
 ghost use Rattle.worked_flashes.specs.Images.{in_b, version_at};
 ghost use Rattle.boot_rules.specs.declared.decision.Decision.TheVariants.{Bootsel, Start};
 ghost use Rattle.boot_rules.specs.declared.decision.Fall.TheVariants.{NoImage};
@@ -12,11 +14,14 @@ ghost use Rattle.boot_cuts.specs.declared.answers.Class.TheVariants.{Former, Fin
 ghost use Rattle.boot_sweep.specs.Moving.{Done, Torn};
 ghost use Rattle.check_require.specs.declared.report.ImageEffect.TheVariants.{Down, New, Same, Unchanged, Up};
 ghost use Rattle.check_require.specs.declared.report.Writer.TheVariants.{Boot, Buy, Script};
+ghost use Rattle.check_images.specs.Boots.{IsBooted, after_boot};
 ghost use Rattle.check_images.specs.Effects.{effect_of, version_effect};
 ghost use Rattle.check_images.specs.Losing.{is_of_start, member_at};
 ghost use Rattle.check_images.specs.Members.{unit_windows};
 ghost use Rattle.check_images.specs.Touching.{touches};
 ghost use Rattle.check_images.specs.Written.{writer_of};
+
+use boot_session::examples::session::a_cut_behind_the_image;
 
 /// A window of one sector at 0x1000. An erase or a program touches it by its first byte and by its
 /// last one. A neighbour does not, and a raise touches nothing.
@@ -114,3 +119,11 @@ pub fn members_of_images()
         (window_at 0x2000 0x1000) ≡ false }
     ensures falls { is_of_start (Bootsel NoImage) (window_at 0x2000 0x1e000) ≡ false }
 {}
+
+/// A normal boot on a flash with an image in the first slot of a pair, and nothing in the second.
+pub fn a_boot()
+    ensures { IsBooted (beside_small bare_slot) Arm (after_boot (beside_small bare_slot) Arm)
+        (Start small_former) }
+{
+    a_cut_behind_the_image();
+}
