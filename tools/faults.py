@@ -54,8 +54,6 @@ unit {} not-reached|unit {} takes|updated|version|w|whole
 caveat {name} {}|caveat {name} partition={}|caveat {name} {} at={}|{} {} bytes={}|{} {}{}|{} rows={}|cmd 0x|load|plan|s
 {} event={} {}{}|{}{}{}|cuts former={} finished={} bootsel={} other={}|former {}end {}effect {}|image hash={}|image none
 law confined|law gated|records ok|rows raised={}{}{}
-effect image={} table={} flash={}|written {} by={}|starts {} loose={}|starts none|fallback|fallback none|lost|no-unit
-ok {} rollback={} trial={} hash={} firm={}
 gated|stage {} bytes={} order={}|staged
 """
 

@@ -9,4 +9,3 @@ mod StageStepLemmas
 mod StageByteLemmas
 mod StagePlanLemmas
 mod ExampleLemmas
-mod ToldLemmas

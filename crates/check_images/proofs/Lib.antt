@@ -1,9 +1,0 @@
-pub mod TouchLemmas
-pub mod LineLemmas
-pub mod MemberLemmas
-pub mod EffectLemmas
-pub mod WriterLemmas
-pub mod ImageLemmas
-pub mod LostLemmas
-pub mod BootLemmas
-pub mod FlashLemmas
