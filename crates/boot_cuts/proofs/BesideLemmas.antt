@@ -26,14 +26,14 @@ use Rattle.boot_sweep.proofs.ResultLemmas.{decision-same, is-same, same-decision
 use Rattle.boot_cuts.specs.declared.answers.Answer.{Answer}
 use Rattle.boot_cuts.specs.declared.answers.Class.{Class}
 use Rattle.boot_cuts.specs.declared.answers.Class.TheVariants.{Former, Finished}
-use Rattle.boot_cuts.specs.declared.moves.Move.{Move}
+use Rattle.boot_tape.specs.declared.moves.Move.{Move}
 use Rattle.boot_cuts.specs.Beside.{IsMoveBeside, StartsApart}
 use Rattle.boot_cuts.specs.Classing.{class_by, has_image_of, is_as_on, is_mended, other_class}
 use Rattle.pico_board.specs.MemBoard.{state_of}
 use Rattle.boot_rules.specs.Choosing.{decision_in}
 use Rattle.boot_cuts.specs.declared.judging.Ends.{Ends}
 use Rattle.boot_cuts.specs.Judging.{AreEnds, judge}
-use Rattle.boot_cuts.specs.Moving.{MoveView, Done, Torn, done_steps, moves_from}
+use Rattle.boot_tape.specs.Moving.{MoveView, Done, Torn, done_steps, moves_from}
 
 load-self : (one : List ℕ) (o : Option ℕ) (n : ℕ) → AgreeOnLoad one one o n
 load-self one None n = tt

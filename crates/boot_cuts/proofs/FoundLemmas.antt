@@ -11,18 +11,18 @@ use Rattle.pico_board.specs.Steps.{after}
 use Rattle.boot_rules.specs.declared.decision.Decision.{Decision}
 use Rattle.boot_rules.specs.Choosing.{decision_in}
 use Rattle.boot_script.specs.Events.{EventView}
-use Rattle.boot_cuts.specs.declared.moves.Move.{Move}
+use Rattle.boot_tape.specs.declared.moves.Move.{Move}
 use Rattle.boot_cuts.specs.declared.runs.Run.{Run}
-use Rattle.boot_cuts.specs.declared.trace.Trace.{Trace}
+use Rattle.boot_tape.specs.declared.trace.Trace.{Trace}
 use Rattle.boot_cuts.specs.Answers.{answer_of, answers}
 use Rattle.boot_cuts.specs.Classing.{class_by, class_of}
 use Rattle.boot_cuts.specs.Contents.{cut_contents}
-use Rattle.boot_cuts.specs.Moving.{AreMovesIn, MoveView, Done, Torn, done_count, done_steps, moves_from, traced_by}
-use Rattle.boot_cuts.specs.Playing.{IsTraceOf}
+use Rattle.boot_tape.specs.Moving.{AreMovesIn, MoveView, Done, Torn, done_count, done_steps, moves_from, traced_by}
+use Rattle.boot_tape.specs.Playing.{IsTraceOf}
 use Rattle.boot_cuts.specs.Runs.{runs_of}
 use Rattle.boot_cuts.specs.Tears.{left_torn}
-use Rattle.boot_cuts.specs.Traces.{Traced, trace, trace_steps}
-use Rattle.boot_cuts.proofs.TraceLemmas.{count-traced}
+use Rattle.boot_tape.specs.Traces.{Traced, trace, trace_steps}
+use Rattle.boot_tape.proofs.TraceLemmas.{count-traced}
 
 done-steps : (c : Content) (moves : List MoveView) → done_steps moves ≡ trace_steps (traced_by c moves)
 done-steps c [] = refl

@@ -3,8 +3,6 @@ pub mod RunLemmas
 pub mod RunLawLemmas
 pub mod TearLemmas
 pub mod ClassLemmas
-pub mod TraceLemmas
-pub mod PlayLemmas
 pub mod FoundLemmas
 pub mod ReplayLemmas
 mod BesideLemmas

@@ -17,11 +17,11 @@ use Rattle.text_lines.specs.Texts.{decision_text}
 use Rattle.boot_plays.specs.Plays.{Moved, Played, moved_as, moved_machine, played, powerless, told_cut}
 use Rattle.boot_plays.proofs.PlayLemmas.{moved-as, moved-told}
 use Rattle.boot_cuts.specs.Contents.{cut_content, cut_contents}
-use Rattle.boot_cuts.specs.Moving.{Done, Torn, after_moves}
-use Rattle.boot_cuts.specs.Playing.{CutMoves, cut_in, cut_moves, move_first}
+use Rattle.boot_tape.specs.Moving.{Done, Torn, after_moves}
+use Rattle.boot_tape.specs.Playing.{CutMoves, cut_in, cut_moves, move_first}
 use Rattle.boot_cuts.specs.Replaying.{replay_of}
-use Rattle.boot_cuts.specs.Traces.{Traced, completed, event_steps, traced, traced_from}
-use Rattle.boot_cuts.proofs.PlayLemmas.{moved-by}
+use Rattle.boot_tape.specs.Traces.{Traced, completed, event_steps, traced, traced_from}
+use Rattle.boot_tape.proofs.PlayLemmas.{moved-by}
 
 -- a list of events behind others
 pub played-append : (m : MachineView) (xs ys : List EventView)

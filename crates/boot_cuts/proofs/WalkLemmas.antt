@@ -12,7 +12,7 @@ use Rattle.boot_cuts.specs.declared.runs.Run.{Run}
 use Rattle.boot_cuts.specs.declared.runs.Runs.{Runs}
 use Rattle.boot_cuts.specs.Beside.{IsMoveBeside}
 use Rattle.boot_cuts.specs.Judging.{judge, told_answers}
-use Rattle.boot_cuts.specs.Moving.{MoveView, Done, Torn}
+use Rattle.boot_tape.specs.Moving.{MoveView, Done, Torn}
 use Rattle.boot_cuts.specs.Runs.{all_runs, open_runs, runs_of}
 
 -- the step of each move lies in the slot

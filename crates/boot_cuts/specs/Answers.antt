@@ -10,7 +10,7 @@ use Rattle.boot_cuts.specs.declared.answers.Answer.{Answer}
 use Rattle.boot_cuts.specs.Classing.{class_of}
 use Rattle.boot_cuts.specs.Contents.{cut_contents}
 use Rattle.boot_cuts.specs.Tears.{left_torn}
-use Rattle.boot_cuts.specs.Traces.{Trace, trace}
+use Rattle.boot_tape.specs.Traces.{Trace, trace}
 
 -- the answer of a cut that leaves d, in a script that leads from c to z and leaves these steps
 -- torn. It is its class, and the decision of a normal boot on d.

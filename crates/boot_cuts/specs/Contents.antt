@@ -2,7 +2,7 @@
 use Rattle.std.specs.Prelude.{ℕ, Bool, true, false, List, [], ◌∷◌}
 use Rattle.pico_board.specs.Content.{Content}
 use Rattle.pico_board.specs.Cuts.{cut_by, cut_with}
-use Rattle.boot_cuts.specs.Traces.{Traced}
+use Rattle.boot_tape.specs.Traces.{Traced}
 
 -- what the loss of power in the step leaves on a board in memory. Before the step it is the
 -- content before it, and within it what the pattern says.

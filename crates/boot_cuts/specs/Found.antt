@@ -10,7 +10,7 @@ use Rattle.boot_cuts.specs.Answers.{answers}
 use Rattle.boot_cuts.specs.Classing.{class_of}
 use Rattle.boot_cuts.specs.Runs.{runs_of}
 use Rattle.boot_cuts.specs.Tears.{left_torn}
-use Rattle.boot_cuts.specs.Traces.{trace, trace_steps}
+use Rattle.boot_tape.specs.Traces.{trace, trace_steps}
 
 -- the most steps of a trace whose cuts are judged
 abbrev pub trace_limit : ℕ

@@ -9,7 +9,7 @@ use Rattle.boot_cuts.specs.declared.judging.Ends.{Ends}
 use Rattle.boot_cuts.specs.Answers.{answer_of}
 use Rattle.boot_cuts.specs.Contents.{cut_contents}
 use Rattle.boot_cuts.specs.Standings.{AreStanding}
-use Rattle.boot_cuts.specs.Moving.{MoveView, traced_by}
+use Rattle.boot_tape.specs.Moving.{MoveView, traced_by}
 
 -- both boards have power and a flash of this length, and the decisions and the images that stand in
 -- windows are theirs

@@ -1,7 +1,5 @@
 -- These definitions are this project's own, except where a comment names a public source.
-pub mod CutMoves
 pub mod Tears
-pub mod Traces
 pub mod Contents
 pub mod Examples
 pub mod Classes
@@ -10,9 +8,6 @@ pub mod Answers
 pub mod Runs
 pub mod Counts
 pub mod Found
-pub mod Tracing
-pub mod Moving
-pub mod Playing
 pub mod Standings
 pub mod Judging
 pub mod Told

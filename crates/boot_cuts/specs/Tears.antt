@@ -7,13 +7,8 @@ use Rattle.pico_board.specs.declared.step.Step.TheVariants.{Erase, Program, Rais
 use Rattle.pico_board.specs.declared.window.Window.{Window}
 use Rattle.pico_board.specs.Sessions.{IsConfined}
 use Rattle.boot_session.specs.Slots.{is_confined}
+pub use Rattle.boot_tape.specs.Moving.{done_steps}
 use Rattle.boot_sweep.specs.Moving.{MoveView, Done, Torn}
-
--- the steps that complete
-abbrev pub done_steps : List MoveView → List Step
-done_steps [] = []
-done_steps (Done step ∷ moves) = step ∷ done_steps moves
-done_steps (Torn step within pattern ∷ moves) = done_steps moves
 
 -- the sector in which an erase or a program lies
 abbrev pub sector_of : Step → Option ℕ

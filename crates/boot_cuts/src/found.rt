@@ -10,23 +10,20 @@ ghost use Rattle.boot_session.specs.Standing.{IsUnarmed};
 ghost use Rattle.boot_sweep.specs.Verdicts.{IsSweptSlot};
 ghost use Rattle.boot_cuts.specs.Beside.{AreMovesBeside};
 ghost use Rattle.boot_cuts.specs.Found.{AreCutsFound, AreCutsOf};
-ghost use Rattle.boot_cuts.specs.Moving.{done_steps, moves_from};
-ghost use Rattle.boot_cuts.specs.Playing.{IsTraceOf};
+ghost use Rattle.boot_tape.specs.Moving.{done_steps, moves_from};
+ghost use Rattle.boot_tape.specs.Playing.{IsTraceOf};
 
 use crate::answers::Class;
-use crate::copying::copy_of;
 use crate::images::images_of;
 use crate::judging::{Ends, class_on};
-use crate::moves::Move;
-use crate::playing::trace_on;
 use crate::runs::Run;
 use crate::tears::left_torn;
-use crate::trace::Trace;
 use crate::walking::runs_on;
 use boot_machine::Watched;
 use boot_rules::{Decision, decide};
 use boot_script::Script;
 use boot_sweep::{Ends as SweepEnds, Slot, slot_of};
+use boot_tape::{Move, Trace, copy_of, trace_on};
 use pico_board::{BootKind, Cpu, MemBoard, Step};
 use sector_pool::SectorPool;
 use std::alloc::{AllocError, Global};
@@ -49,7 +46,7 @@ pub struct Cuts {
 }
 
 /// The steps that complete.
-fn steps_of(alloc: Global, moves: &[Move<'_>]) -> Result<Vec<Step>, AllocError>
+pub fn steps_of(alloc: Global, moves: &[Move<'_>]) -> Result<Vec<Step>, AllocError>
     ensures { IfOk result (λ steps. steps.items ≡ done_steps (moves_from moves.now)) }
 {
     let mut steps = Vec::new(alloc);
@@ -71,7 +68,7 @@ fn numbers_of(alloc: Global, numbers: &[u32]) -> Result<Vec<u32>, AllocError>
 }
 
 /// The member of a pair in which the steps lie, where all that the script does is these steps.
-fn slot_beside(board: &MemBoard, cpu: Cpu, steps: &[Step], moves: &[Move<'_>]) -> Option<Slot>
+pub fn slot_beside(board: &MemBoard, cpu: Cpu, steps: &[Step], moves: &[Move<'_>]) -> Option<Slot>
     requires power { IsTrue (state_of board.now).powered }
     requires steps { steps.now ≡ done_steps (moves_from moves.now) }
     ensures slot { IfSome result (IsSweptSlot (state_of board.now).content cpu steps.now) }
@@ -86,7 +83,7 @@ fn slot_beside(board: &MemBoard, cpu: Cpu, steps: &[Step], moves: &[Move<'_>]) -
 
 /// A pool with free sectors.
 #[tactic(auto, using(crate::proofs::PoolLemmas::one_free))]
-fn pool_of(alloc: Global) -> Result<SectorPool, AllocError>
+pub fn pool_of(alloc: Global) -> Result<SectorPool, AllocError>
     ensures { IfOk result HasFree }
 {
     SectorPool::make(alloc, 2)

@@ -37,7 +37,7 @@ fn same_piece<V: View, W: View>(
 }
 
 /// Whether the two views have the same bytes in a range, piece by piece.
-fn same_range<V: View, W: View>(one: &V, two: &W, start: u32, size: u32) -> bool
+pub fn same_range<V: View, W: View>(one: &V, two: &W, start: u32, size: u32) -> bool
     requires in_one { start + size ≤ length (V.bytes one.now) }
     requires in_two { start + size ≤ length (W.bytes two.now) }
     ensures { (result ≡ true) ↔ AgreeFrom (V.bytes one.now) (W.bytes two.now) start (start + size) }

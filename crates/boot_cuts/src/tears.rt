@@ -2,11 +2,11 @@
 
 ghost use Rattle.std.specs.Prelude.{◌≡◌, ◌++◌, IfOk, OnOk};
 ghost use Rattle.std.specs.List.{list_any};
-ghost use Rattle.boot_cuts.specs.Moving.{done_steps, move_from, moves_from};
+ghost use Rattle.boot_tape.specs.Moving.{done_steps, move_from, moves_from};
 ghost use Rattle.boot_cuts.specs.Tears.{is_left_torn, is_sector, left_torn, mends, sector_of, torn_here};
 
-use crate::moves::Move;
 use boot_session::is_confined;
+use boot_tape::Move;
 use pico_board::{PAGE, SECTOR, Step, Window};
 use std::alloc::{AllocError, Global};
 

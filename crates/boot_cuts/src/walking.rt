@@ -11,30 +11,19 @@ ghost use Rattle.boot_sweep.specs.Verdicts.{Knows};
 ghost use Rattle.boot_cuts.specs.Beside.{AreMovesBeside};
 ghost use Rattle.boot_cuts.specs.declared.answers.Answer.{Answer as Told};
 ghost use Rattle.boot_cuts.specs.Judging.{AreEnds, judge, told_answers};
-ghost use Rattle.boot_cuts.specs.Moving.{AreMovesIn, done_count, move_from, moves_from};
+ghost use Rattle.boot_tape.specs.Moving.{AreMovesIn, done_count, moves_from};
 ghost use Rattle.boot_cuts.specs.Runs.{all_runs, runs_of};
 
 use crate::answers::Answer;
 use crate::beside::answer_beside;
 use crate::judging::Ends;
-use crate::moves::Move;
 use crate::runs::{Run, Runs};
 use boot_machine::Watched;
-use boot_sweep::{Act, Doing, Judge, Last, Slot, each_cut};
+use boot_sweep::{Judge, Last, Slot, each_cut};
+use boot_tape::Move;
 use pico_board::MemBoard;
 use sector_pool::SectorPool;
 use std::alloc::{AllocError, Global};
-
-impl Act for Move<'_> {
-    ghost act = { move_from };
-
-    fn doing(&self) -> Doing<'_> {
-        match self {
-            Move::Done(step) => Doing::Done(step),
-            Move::Torn(step, within, former) => Doing::Torn(step, *within, former),
-        }
-    }
-}
 
 impl Judge<Watched<MemBoard>> for Ends<'_> {
     type Answer = Answer;

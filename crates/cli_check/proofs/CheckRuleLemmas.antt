@@ -14,7 +14,7 @@ use Rattle.boot_cuts.specs.declared.answers.Class.{Class}
 use Rattle.boot_cuts.specs.Answers.{answers, end_answer}
 use Rattle.boot_cuts.specs.Contents.{cut_contents}
 use Rattle.boot_cuts.specs.Found.{trace_limit}
-use Rattle.boot_cuts.specs.Traces.{trace, trace_steps}
+use Rattle.boot_tape.specs.Traces.{trace, trace_steps}
 use Rattle.boot_cuts.proofs.ClassLemmas.{answer-is, answers-are, class-exactly, one-answers}
 use Rattle.cli_course.specs.declared.status.Status.TheVariants.{Input as Refused}
 use Rattle.cli_course.specs.Outcomes.{AnswerView, Refuses, refused, verdict_status, worked}

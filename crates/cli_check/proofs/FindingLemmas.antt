@@ -21,7 +21,7 @@ use Rattle.boot_cuts.specs.Found.{AreCutsOf}
 use Rattle.boot_cuts.specs.Counts.{class_count, runs_count}
 use Rattle.boot_cuts.specs.Tears.{left_torn}
 use Rattle.boot_cuts.specs.Runs.{runs_of}
-use Rattle.boot_cuts.specs.Traces.{Traced, trace, trace_steps}
+use Rattle.boot_tape.specs.Traces.{Traced, trace, trace_steps}
 use Rattle.cli_check.specs.declared.findings.CutCounts.{CutCounts}
 use Rattle.cli_check.specs.declared.findings.Findings.{Findings}
 use Rattle.cli_check.specs.declared.findings.SessionLaw.{SessionLaw}

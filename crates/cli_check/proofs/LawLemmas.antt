@@ -26,7 +26,7 @@ use Rattle.boot_sweep.specs.Refusals.{gains_table, is_start_in, ungated_in}
 use Rattle.boot_sweep.proofs.GateLemmas.{none-gated}
 use Rattle.boot_sweep.proofs.KnownLemmas.{all-confined}
 use Rattle.boot_sweep.proofs.RefusalCaseLemmas.{in-start}
-use Rattle.boot_cuts.specs.Traces.{trace, trace_steps}
+use Rattle.boot_tape.specs.Traces.{trace, trace_steps}
 use Rattle.cli_check.specs.declared.findings.SessionLaw.{SessionLaw}
 use Rattle.cli_check.specs.declared.findings.SessionLaw.TheVariants.{GatedOn, ConfinedTo, NoLaw}
 use Rattle.cli_check.specs.SessionLaws.{keeps_slot, kept_law, law_by, law_of, slot_law}

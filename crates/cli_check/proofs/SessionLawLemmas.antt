@@ -28,7 +28,7 @@ use Rattle.boot_sweep.specs.Refusals.{StartsIn, gains_table, is_start_in, ungate
 use Rattle.boot_sweep.proofs.GateLemmas.{gated-none, none-gated}
 use Rattle.boot_sweep.proofs.KnownLemmas.{all-confined}
 use Rattle.boot_sweep.proofs.RefusalCaseLemmas.{in-start}
-use Rattle.boot_cuts.specs.Traces.{trace, trace_steps}
+use Rattle.boot_tape.specs.Traces.{trace, trace_steps}
 use Rattle.cli_check.specs.declared.findings.SessionLaw.{SessionLaw}
 use Rattle.cli_check.specs.declared.findings.SessionLaw.TheVariants.{GatedOn, ConfinedTo, NoLaw}
 use Rattle.cli_check.specs.SessionLaws.{IsSessionLaw, KeepsTo, keeps_slot, law_by, law_of, slot_law}

@@ -17,7 +17,7 @@ use Rattle.boot_machine.specs.Moves.{armed_for, effect}
 use Rattle.boot_machine.specs.Serving.{is_hosted}
 use Rattle.boot_plays.specs.Plays.{Moved, moved_as, moved_machine, played, powerless, told_cut}
 use Rattle.boot_plays.proofs.PlayLemmas.{moved-as}
-use Rattle.boot_cuts.specs.Traces.{Traced, completed, event_steps, trace, trace_steps, traced, traced_from}
+use Rattle.boot_tape.specs.Traces.{Traced, completed, event_steps, trace, trace_steps, traced, traced_from}
 use Rattle.cli_check.specs.Sessions.{Closing, closes_quietly, closing, ends_quietly, hosted_events, is_one_session, served_at}
 use Rattle.cli_check.proofs.ServingLemmas.{follows-hosted}
 

@@ -14,7 +14,7 @@ use Rattle.boot_cuts.specs.Classes.{IsClass}
 use Rattle.boot_cuts.specs.Contents.{cut_contents}
 use Rattle.boot_cuts.specs.Found.{IsShort, trace_limit}
 use Rattle.boot_cuts.specs.Told.{AreAnswers}
-use Rattle.boot_cuts.specs.Traces.{trace, trace_steps}
+use Rattle.boot_tape.specs.Traces.{trace, trace_steps}
 use Rattle.cli_course.specs.Outcomes.{AnswerView, verdict_status, Verdict, Passes, IsUnbootable, IsMixed, HasNoEffect, IsRefused}
 use Rattle.cli_check.specs.declared.findings.Findings.{Findings}
 use Rattle.cli_check.specs.CheckWorks.{counts_of, hash_of, raise_count}

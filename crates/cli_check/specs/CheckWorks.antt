@@ -21,7 +21,7 @@ use Rattle.boot_cuts.specs.Answers.{answers, end_answer}
 use Rattle.boot_cuts.specs.Found.{trace_limit}
 use Rattle.boot_cuts.specs.Counts.{class_count, runs_count}
 use Rattle.boot_cuts.specs.declared.runs.Run.{Run}
-use Rattle.boot_cuts.specs.Traces.{trace, trace_steps}
+use Rattle.boot_tape.specs.Traces.{trace, trace_steps}
 use Rattle.cli_course.specs.Outcomes.{Work, Judges, Refuses}
 use Rattle.cli_check.specs.declared.findings.CutCounts.{CutCounts}
 use Rattle.cli_check.specs.declared.findings.Findings.{Findings}

@@ -12,7 +12,7 @@ use Rattle.boot_rules.specs.Tables.{table_in}
 use Rattle.boot_session.specs.Slots.{IsSlot, is_confined, session_slot}
 use Rattle.boot_sweep.specs.Refusals.{StartsIn, gains_table, is_start_in, ungated_in}
 use Rattle.boot_script.specs.Events.{EventView}
-use Rattle.boot_cuts.specs.Traces.{trace, trace_steps}
+use Rattle.boot_tape.specs.Traces.{trace, trace_steps}
 use Rattle.cli_check.specs.declared.findings.SessionLaw.{SessionLaw}
 use Rattle.cli_check.specs.declared.findings.SessionLaw.TheVariants.{GatedOn, ConfinedTo, NoLaw}
 use Rattle.cli_check.specs.Sessions.{is_one_session}

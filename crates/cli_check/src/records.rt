@@ -10,9 +10,9 @@ ghost use Rattle.boot_machine.specs.Standing.{Stands};
 ghost use Rattle.boot_plays.specs.Plays.{moved_machine, played, powerless};
 ghost use Rattle.cli_check.specs.Records.{does_nothing, is_refused_answer, is_refused_block, refused_from};
 
-use boot_cuts::copy_of;
 use boot_machine::Machine;
 use boot_script::{Event, Script};
+use boot_tape::copy_of;
 use pico_board::{Cpu, MemBoard};
 use ram_start::Ram;
 use sector_pool::SectorPool;

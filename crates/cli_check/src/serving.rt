@@ -14,9 +14,9 @@ ghost use Rattle.cli_check.specs.Serving.{HasServedAll, IsAt};
 ghost use Rattle.cli_check.specs.Sessions.{closing, hosted_events, is_one_session, is_quiet, served_at};
 
 use crate::records::step;
-use boot_cuts::copy_of;
 use boot_machine::{Machine, State};
 use boot_script::{Event, Events, Script};
+use boot_tape::copy_of;
 use pico_board::{BootKind, Cpu, MemBoard};
 use ram_start::Ram;
 use sector_pool::SectorPool;

@@ -20,7 +20,7 @@ use Rattle.boot_cuts.specs.Answers.{answers, end_answer}
 use Rattle.boot_cuts.specs.Contents.{cut_contents}
 use Rattle.boot_cuts.specs.Found.{AreCutsOf, trace_limit}
 use Rattle.boot_cuts.specs.Runs.{runs_of}
-use Rattle.boot_cuts.specs.Traces.{trace, trace_steps}
+use Rattle.boot_tape.specs.Traces.{trace, trace_steps}
 use Rattle.boot_cuts.proofs.ClassLemmas.{answer-is, answers-are, one-answer, one-answers}
 use Rattle.boot_cuts.proofs.RunLawLemmas.{runs-are, runs-one}
 use Rattle.cli_cuts.specs.CutsRules.{IsCutsOf, IsCutsRefused, IsStatusOf}

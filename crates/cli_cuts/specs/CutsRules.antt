@@ -15,7 +15,7 @@ use Rattle.boot_cuts.specs.Contents.{cut_contents}
 use Rattle.boot_cuts.specs.Found.{trace_limit}
 use Rattle.boot_cuts.specs.Runs.{AreRuns}
 use Rattle.boot_cuts.specs.Told.{AreAnswers, IsAnswer}
-use Rattle.boot_cuts.specs.Traces.{trace, trace_steps}
+use Rattle.boot_tape.specs.Traces.{trace, trace_steps}
 use Rattle.cli_cuts.specs.CutsTexts.{cuts_text}
 use Rattle.cli_cuts.specs.CutsWorks.{run_answers}
 

@@ -13,7 +13,7 @@ use Rattle.boot_cuts.specs.Answers.{answers, end_answer}
 use Rattle.boot_cuts.specs.Counts.{has_class}
 use Rattle.boot_cuts.specs.Found.{trace_limit}
 use Rattle.boot_cuts.specs.Runs.{runs_of}
-use Rattle.boot_cuts.specs.Traces.{trace, trace_steps}
+use Rattle.boot_tape.specs.Traces.{trace, trace_steps}
 use Rattle.cli_cuts.specs.CutsTexts.{cuts_text}
 
 -- the answers of the lines: those of the runs, and that of the end

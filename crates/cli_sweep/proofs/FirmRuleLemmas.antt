@@ -17,10 +17,10 @@ use Rattle.cli_course.specs.Outcomes.{AnswerView, refused, worked}
 use Rattle.cli_inputs.specs.Rules.{IsRefusedOrRight, IsByRules}
 use Rattle.cli_inputs.proofs.WorkLemmas.{same-outcome}
 use Rattle.text_lines.specs.Faults.{why_text}
-use Rattle.cli_sweep.specs.Firmness.{is_firm}
+use Rattle.boot_firm.specs.Firmness.{is_firm}
 use Rattle.cli_sweep.specs.FirmWorks.{firm_line, firm_work, image_alone, judged_work, whole_window}
 use Rattle.cli_sweep.specs.SweepRules.{IsFirmOf, IsFirmRefused, SaysFirm}
-use Rattle.cli_sweep.proofs.FirmnessLemmas.{firm-decides}
+use Rattle.boot_firm.proofs.FirmnessLemmas.{firm-decides}
 
 -- an image that is valid is held
 held : (c : Content) (w : Window) (cpu : Cpu) (s : Started) → Valid c w cpu true s → HoldsImage cpu (window_bytes c w) s

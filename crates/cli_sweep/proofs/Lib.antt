@@ -1,4 +1,3 @@
 pub mod ChartRuleLemmas
-mod FirmnessLemmas
 pub mod SweepRuleLemmas
 pub mod FirmRuleLemmas

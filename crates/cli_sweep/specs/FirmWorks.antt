@@ -10,7 +10,7 @@ use Rattle.cli_course.specs.Outcomes.{Work, Answers, Refuses, line}
 use Rattle.cli_inputs.specs.Forms.{content_of_files, filled_flash}
 use Rattle.text_lines.specs.Faults.{why_text}
 use Rattle.text_words.specs.Writing.{yes_or_no}
-use Rattle.cli_sweep.specs.Firmness.{is_firm}
+use Rattle.boot_firm.specs.Firmness.{is_firm}
 
 -- an image alone: a flash of its bytes, filled to whole sectors, and an OTP of zeros
 abbrev pub image_alone : List ℕ → Content

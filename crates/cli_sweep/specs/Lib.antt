@@ -2,6 +2,5 @@
 pub mod ChartWorks
 pub mod ChartRules
 pub mod SweepWorks
-pub mod Firmness
 pub mod FirmWorks
 pub mod SweepRules

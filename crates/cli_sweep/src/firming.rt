@@ -6,12 +6,11 @@ ghost use Rattle.image_check.specs.SameImage.{HoldsImage};
 ghost use Rattle.cli_course.specs.Outcomes.{refused, worked};
 ghost use Rattle.text_lines.specs.Faults.{why_text};
 ghost use Rattle.cli_course.specs.Views.{answer_from};
-ghost use Rattle.cli_sweep.specs.Firmness.{is_firm};
 ghost use Rattle.cli_sweep.specs.FirmWorks.{firm_line, firm_work, image_alone, judged_work, whole_window};
 ghost use Rattle.pico_board.specs.MemBoard.{state_of};
 ghost use Rattle.image_check.specs.Image.{image_at};
 
-use boot_sweep::firm;
+use boot_firm::is_firm;
 use cli_course::{Answer, refusal, told};
 use cli_inputs::{Image, lone_board, new_pool};
 use image_check::{Started, Why, check};
@@ -26,17 +25,6 @@ fn firm_line(alloc: Global, firm: bool) -> Result<String, AllocError>
 {
     let word = yes_or_no(firm);
     format!(in alloc; "firm {word}\n")
-}
-
-/// Whether the image that a window of the board holds is firm.
-fn is_firm(board: &MemBoard, window: Window, started: &Started, cpu: Cpu) -> bool
-    requires power { IsTrue (state_of board.now).powered }
-    requires inside { window.start + window.len ≤ length (state_of board.now).content.flash }
-    requires held { HoldsImage cpu (window_bytes (state_of board.now).content window) started.now }
-    ensures { result ≡ is_firm cpu (window_bytes (state_of board.now).content window)
-        started.now }
-{
-    firm(&FlashView { board, window }, started, cpu)
 }
 
 /// The rule that an image fails.

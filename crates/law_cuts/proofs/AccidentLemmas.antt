@@ -31,7 +31,7 @@ use Rattle.boot_cuts.specs.declared.answers.Class.TheVariants.{Former, Finished}
 use Rattle.boot_cuts.specs.Classes.{IsClass, IsFinished, IsFormer}
 use Rattle.boot_cuts.proofs.ClassLemmas.{class-exactly}
 use Rattle.boot_cuts.specs.Contents.{cut_contents}
-use Rattle.boot_cuts.specs.Traces.{trace, trace_steps, traced_from}
+use Rattle.boot_tape.specs.Traces.{trace, trace_steps, traced_from}
 use Rattle.law_cuts.specs.Cases.{IsAccident, IsGatedScript, IsOther}
 use Rattle.law_cuts.proofs.CaseLemmas.{decides-former, keeps-former, starts-finished}
 use Rattle.law_cuts.proofs.SessionTraceLemmas.{all-mended, last-is, trace-is}

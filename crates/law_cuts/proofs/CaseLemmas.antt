@@ -48,7 +48,7 @@ use Rattle.boot_cuts.specs.Classing.{class_of}
 use Rattle.boot_cuts.specs.Tears.{IsLeftTorn, left_torn}
 use Rattle.boot_cuts.proofs.ClassLemmas.{class-exactly}
 use Rattle.boot_cuts.specs.Contents.{cut_contents}
-use Rattle.boot_cuts.specs.Traces.{traced_from}
+use Rattle.boot_tape.specs.Traces.{traced_from}
 use Rattle.law_cuts.specs.Cases.{IsClassFor, IsOther, IsSweptScript}
 use Rattle.law_cuts.proofs.SameImageLemmas.{same-back}
 

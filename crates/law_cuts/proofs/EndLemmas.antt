@@ -21,9 +21,9 @@ use Rattle.boot_sweep.proofs.ResultLemmas.{start-holds}
 use Rattle.boot_cuts.specs.declared.answers.Class.{Class}
 use Rattle.boot_cuts.specs.declared.answers.Class.TheVariants as classes
 use Rattle.boot_cuts.specs.Classes.{IsClass, IsFinished}
-use Rattle.boot_cuts.specs.CutMoves.{cut_moves}
+use Rattle.boot_tape.specs.CutMoves.{cut_moves}
 use Rattle.boot_cuts.specs.Tears.{IsLeftTorn, is_left_torn, left_torn}
-use Rattle.boot_cuts.specs.Traces.{event_moves, moves_in, trace}
+use Rattle.boot_tape.specs.Traces.{event_moves, moves_in, trace}
 use Rattle.boot_cuts.proofs.TearLemmas.{torn-exactly}
 use Rattle.law_cuts.specs.Cases.{ArmsNoCut, IsWholeOrNone}
 use Rattle.law_cuts.proofs.SessionTraceLemmas.{dones, none-cut, uncut}

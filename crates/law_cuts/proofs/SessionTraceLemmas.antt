@@ -24,9 +24,9 @@ use Rattle.boot_plays.specs.Plays.{Moved, moved_as, moved_machine, played, power
 use Rattle.boot_plays.proofs.PlayLemmas.{moved-as}
 use Rattle.boot_session.specs.Sessions.{going_on, session, session_from}
 use Rattle.boot_sweep.specs.Moving.{MoveView, Done}
-use Rattle.boot_cuts.specs.CutMoves.{cut_moves}
+use Rattle.boot_tape.specs.CutMoves.{cut_moves}
 use Rattle.boot_cuts.specs.Tears.{IsLeftTorn, is_left_torn, left_torn}
-use Rattle.boot_cuts.specs.Traces.{Traced, completed, event_moves, event_steps, moves_in, traced, traced_from}
+use Rattle.boot_tape.specs.Traces.{Traced, completed, event_moves, event_steps, moves_in, traced, traced_from}
 use Rattle.boot_cuts.proofs.TearLemmas.{torn-exactly}
 use Rattle.cli_check.specs.Sessions.{Closing, closes_quietly, closing, ends_quietly, hosted_events, is_empty, is_one_session, is_quiet, is_quiet_boot, served_at}
 

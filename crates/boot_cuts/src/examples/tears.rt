@@ -4,8 +4,8 @@ ghost use Rattle.std.specs.Prelude.{◌≡◌, ◌∷◌, [], ℕ, List, None, S
 ghost use Rattle.pico_board.specs.declared.Step.TheVariants.{Erase, Program, Raise};
 ghost use Rattle.pico_board.specs.Cuts.{cut_with};
 ghost use Rattle.slot_choice.specs.Examples.{window_at};
-ghost use Rattle.boot_cuts.specs.CutMoves.{cut_moves};
-ghost use Rattle.boot_cuts.specs.Moving.{Done, Torn};
+ghost use Rattle.boot_tape.specs.CutMoves.{cut_moves};
+ghost use Rattle.boot_tape.specs.Moving.{Done, Torn};
 ghost use Rattle.boot_cuts.specs.Tears.{is_left_torn, left_torn};
 
 /// A cut of the script leaves its step torn, before it as within it. An erase of its sector that

@@ -15,7 +15,7 @@ ghost use Rattle.boot_cuts.specs.Contents.{cut_content, cut_contents};
 ghost use Rattle.boot_cuts.specs.Examples.{raises, rows};
 ghost use Rattle.boot_cuts.specs.Found.{trace_limit};
 ghost use Rattle.boot_cuts.specs.Replaying.{replay_of};
-ghost use Rattle.boot_cuts.specs.Traces.{completed, event_steps, trace_steps, traced, traced_from};
+ghost use Rattle.boot_tape.specs.Traces.{completed, event_steps, trace_steps, traced, traced_from};
 
 /// Each step has the content before it.
 pub fn steps_with_the_content_before_them()

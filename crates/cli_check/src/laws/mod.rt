@@ -14,7 +14,7 @@ ghost use Rattle.boot_rules.specs.Choosing.{decision_in};
 ghost use Rattle.boot_rules.specs.Chosen.{Chosen};
 ghost use Rattle.boot_script.specs.Events.{EventView};
 ghost use Rattle.boot_session.specs.CutSessions.{StartsFinished, StartsThere};
-ghost use Rattle.boot_cuts.specs.Traces.{trace, trace_steps};
+ghost use Rattle.boot_tape.specs.Traces.{trace, trace_steps};
 ghost use Rattle.cli_inputs.specs.Rules.{IsByRules};
 ghost use Rattle.cli_check.specs.declared.findings.SessionLaw.TheVariants.{ConfinedTo, GatedOn};
 ghost use Rattle.cli_check.specs.CheckRules.{IsCheckOf, IsCheckRefused};

@@ -1,23 +1,13 @@
 //! Laws of the works, proved: each is the `ensures` of a function that does nothing.
 
-ghost use Rattle.std.specs.Prelude.{◌≡◌, ◌↔◌, ⊤, ℕ, List, true};
+ghost use Rattle.std.specs.Prelude.{⊤, ℕ, List};
 ghost use Rattle.pico_board.specs.declared.boot.Cpu.{Cpu};
-ghost use Rattle.image_def.specs.declared.started.Started.{Started};
-ghost use Rattle.image_check.specs.SameImage.{HoldsImage};
-ghost use Rattle.boot_sweep.specs.Firms.{IsFirm};
 ghost use Rattle.pico_board.specs.Content.{Content, IsContent};
 ghost use Rattle.cli_course.specs.Outcomes.{AreBytes};
 ghost use Rattle.cli_inputs.specs.Rules.{IsByRules};
-ghost use Rattle.cli_sweep.specs.Firmness.{is_firm};
 ghost use Rattle.cli_sweep.specs.FirmWorks.{firm_work};
 ghost use Rattle.cli_sweep.specs.SweepRules.{IsFirmOf, IsFirmRefused, IsSweepOf, IsSweepRefused};
 ghost use Rattle.cli_sweep.specs.SweepWorks.{sweep_work};
-
-/// An image that a window holds is firm exactly where the function says so.
-pub fn firm_images_are_judged()
-    ensures { (cpu : Cpu) (bytes : List ℕ) (s : Started) → HoldsImage cpu bytes s
-        → (is_firm cpu bytes s ≡ true) ↔ IsFirm cpu bytes s }
-{}
 
 /// The works of `sweep` and `firm` are right by their rules. `sweep` asks for a content and a
 /// pattern of bytes, since power that is lost in an erase leaves bytes.

@@ -13,7 +13,7 @@ ghost use Rattle.boot_cuts.specs.declared.answers.Class.{Class};
 ghost use Rattle.boot_cuts.specs.declared.answers.Class.TheVariants.{Former, Finished, Whole, Tail, Mixed, Bootsel};
 ghost use Rattle.boot_cuts.specs.Classes.{IsClass};
 ghost use Rattle.boot_cuts.specs.Contents.{cut_contents};
-ghost use Rattle.boot_cuts.specs.Traces.{trace};
+ghost use Rattle.boot_tape.specs.Traces.{trace};
 ghost use Rattle.cli_check.specs.Sessions.{is_one_session};
 ghost use Rattle.worked_flashes.specs.Choices.{small_slot};
 ghost use Rattle.worked_flashes.specs.Flashes.{arm_slot, bare_slot, beside_small, data_page};

@@ -8,9 +8,9 @@ use Rattle.boot_rules.specs.Choosing.{decision_in}
 use Rattle.boot_cuts.specs.Answers.{answer_of}
 use Rattle.boot_cuts.specs.Classing.{class_of}
 use Rattle.boot_cuts.specs.Contents.{cut_contents}
-use Rattle.boot_cuts.specs.Moving.{moves_from, traced_by}
+use Rattle.boot_tape.specs.Moving.{moves_from, traced_by}
 use Rattle.boot_cuts.specs.Runs.{runs_of}
-use Rattle.boot_cuts.specs.Traces.{trace}
+use Rattle.boot_tape.specs.Traces.{trace}
 use Rattle.pico_board.specs.Content.{Content}
 use Rattle.pico_board.specs.declared.mem_board.MemBoard.{MemBoard}
 use Rattle.pico_board.specs.MemBoard.{state_of}

@@ -2,8 +2,8 @@ use Rattle.std.proofs.Common.{◌<◌, length, subst}
 use Rattle.std.specs.Prelude.{MatchOption}
 use Rattle.pico_board.specs.MemBoard.{state_of}
 use Rattle.boot_script.specs.Scripts.{script_events}
-use Rattle.boot_cuts.specs.Playing.{IsTraceOf, IsTracedTooLong}
-use Rattle.boot_cuts.specs.Traces.{trace}
+use Rattle.boot_tape.specs.Playing.{IsTraceOf, IsTracedTooLong}
+use Rattle.boot_tape.specs.Traces.{trace}
 use Rattle.boot_cuts.proofs.found.cuts_on.Goals as goal
 
 pub returns-in-None : goal.returns-in-None

@@ -4,7 +4,7 @@ use Rattle.pico_board.specs.declared.Step.{Step}
 use Rattle.pico_board.specs.MemBoard.{state_of}
 use Rattle.boot_sweep.specs.Verdicts.{LiesIn}
 use Rattle.boot_sweep.proofs.KnownLemmas.{lies-in}
-use Rattle.boot_cuts.specs.Moving.{moves_from}
+use Rattle.boot_tape.specs.Moving.{moves_from}
 use Rattle.boot_cuts.proofs.BesideLemmas.{all-beside, length-moves, none-beside}
 use Rattle.boot_cuts.proofs.found.slot_beside.Goals as goal
 

@@ -1,5 +1,5 @@
 use Rattle.std.proofs.Common.{◌≡◌, ◌++◌, drop}
-use Rattle.boot_cuts.specs.Moving.{done_steps, moves_from}
+use Rattle.boot_tape.specs.Moving.{done_steps, moves_from}
 use Rattle.boot_cuts.proofs.found.steps_of.Given as goal
 
 -- the steps so far, and those of the rest, are all

@@ -1,6 +1,6 @@
 use Rattle.std.proofs.Common.{◌∙◌, ◌++◌, List, append-nil, ap, sym}
 use Rattle.pico_board.specs.declared.Step.{Step}
-use Rattle.boot_cuts.specs.Moving.{move_from, moves_from}
+use Rattle.boot_tape.specs.Moving.{move_from, moves_from}
 use Rattle.boot_cuts.proofs.TearLemmas.{torn-here}
 use Rattle.boot_cuts.proofs.tears.add_torn.Goals as goal
 

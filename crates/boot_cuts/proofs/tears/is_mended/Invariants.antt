@@ -1,6 +1,6 @@
 use Rattle.std.proofs.Common.{◌≡◌, drop}
 use Rattle.std.specs.List.{list_any}
-use Rattle.boot_cuts.specs.Moving.{done_steps, moves_from}
+use Rattle.boot_tape.specs.Moving.{done_steps, moves_from}
 use Rattle.boot_cuts.specs.Tears.{mends}
 use Rattle.boot_cuts.proofs.tears.is_mended.Given as goal
 

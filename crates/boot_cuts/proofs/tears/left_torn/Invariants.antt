@@ -1,5 +1,5 @@
 use Rattle.std.proofs.Common.{◌≡◌, ◌++◌, drop}
-use Rattle.boot_cuts.specs.Moving.{moves_from}
+use Rattle.boot_tape.specs.Moving.{moves_from}
 use Rattle.boot_cuts.specs.Tears.{left_torn}
 use Rattle.boot_cuts.proofs.tears.left_torn.Given as goal
 

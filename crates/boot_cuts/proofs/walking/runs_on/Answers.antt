@@ -5,7 +5,7 @@ use Rattle.std.specs.declared.alloc.Global.{Global}
 use Rattle.pico_board.specs.MemBoard.{state_of}
 use Rattle.boot_cuts.specs.declared.runs.Run.{Run}
 use Rattle.boot_cuts.specs.Judging.{told_answers}
-use Rattle.boot_cuts.specs.Moving.{moves_from}
+use Rattle.boot_tape.specs.Moving.{moves_from}
 use Rattle.boot_cuts.specs.Runs.{all_runs, runs_of}
 use Rattle.boot_cuts.proofs.WalkLemmas.{moves-lie, runs-begun, runs-taken}
 use Rattle.boot_cuts.proofs.walking.runs_on.Goals as goal

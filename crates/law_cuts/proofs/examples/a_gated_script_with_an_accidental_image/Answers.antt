@@ -14,7 +14,7 @@ use Rattle.boot_cuts.specs.Classes.{IsClass}
 use Rattle.boot_cuts.specs.Classing.{class_of}
 use Rattle.boot_cuts.specs.Contents.{cut_contents}
 use Rattle.boot_cuts.specs.Tears.{left_torn}
-use Rattle.boot_cuts.specs.Traces.{Traced, trace, trace_steps, traced_from}
+use Rattle.boot_tape.specs.Traces.{Traced, trace, trace_steps, traced_from}
 use Rattle.worked_flashes.specs.Choices.{small_slot}
 use Rattle.worked_flashes.specs.Writes.{longer_steps}
 use Rattle.boot_cuts.proofs.ClassLemmas.{class-exactly}

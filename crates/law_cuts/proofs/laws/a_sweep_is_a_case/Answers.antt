@@ -5,7 +5,7 @@ use Rattle.boot_session.specs.Sessions.{session}
 use Rattle.boot_sweep.specs.Comparing.{result_of}
 use Rattle.boot_cuts.specs.Contents.{cut_contents}
 use Rattle.boot_cuts.specs.Classes.{IsClass}
-use Rattle.boot_cuts.specs.Traces.{trace}
+use Rattle.boot_tape.specs.Traces.{trace}
 use Rattle.law_cuts.proofs.CaseLemmas.{KeepsFormer, class-of-result, last-keeps, line-case, not-refused, two-cuts}
 use Rattle.law_cuts.proofs.SessionTraceLemmas.{all-mended, last-is, trace-is}
 use Rattle.law_cuts.proofs.laws.a_sweep_is_a_case.Goals as goal

@@ -1,0 +1,2 @@
+-- These definitions are this project's own.
+pub mod Firmness

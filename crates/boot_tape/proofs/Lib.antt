@@ -1,0 +1,6 @@
+mod PoolLemmas
+mod DoerLemmas
+pub mod TraceLemmas
+pub mod NoteLemmas
+pub mod PlayLemmas
+pub mod ComingLemmas

@@ -1,0 +1,229 @@
+-- What the steps of an event come to where a cut of the script is armed, and a play on its way.
+use Rattle.std.specs.Prelude.{◌≡◌, ⊤, ℕ, ◌+◌, ◌-◌, ◌<◌, ◌≤◌, ◌==◌, Bool, true, false, if◌then◌else◌, List, [], ◌∷◌, ◌++◌, length, replicate, Option, Some, None, option_map}
+use Rattle.std.specs.List.{AllByRecursion}
+use Rattle.pico_board.specs.declared.mem_board.MemBoard.{MemBoard}
+use Rattle.pico_board.specs.MemBoard.{state_of}
+use Rattle.pico_board.specs.Histories.{Extends}
+use Rattle.pico_board.specs.Content.{Content}
+use Rattle.pico_board.specs.declared.boot.Cpu.{Cpu}
+use Rattle.pico_board.specs.Steps.{IsStepIn, after, after_all}
+use Rattle.boot_script.specs.Events.{EventView}
+use Rattle.boot_session.specs.Standing.{IsUnarmed}
+use Rattle.boot_machine.specs.declared.parts.Parts.{Parts}
+use Rattle.boot_machine.specs.Machines.{MachineView, Off}
+use Rattle.boot_machine.specs.Boots.{Effect}
+use Rattle.boot_machine.specs.Moves.{effect, stays_with}
+use Rattle.text_lines.specs.declared.outcome.EventOutcome.TheVariants as event_outcomes
+use Rattle.pico_board.specs.declared.boot.BootKind.{BootKind}
+use Rattle.pico_board.specs.declared.boot.BootKind.TheVariants.{Normal}
+use Rattle.boot_machine.specs.declared.state.State.{State}
+use Rattle.boot_machine.specs.declared.state.State.TheVariants as states
+use Rattle.boot_tape.specs.declared.notes.Behind.{Behind}
+use Rattle.boot_tape.specs.declared.notes.Behind.TheVariants as behinds
+use Rattle.boot_machine.specs.Standing.{Stands}
+use Rattle.boot_plays.specs.Plays.{played}
+use Rattle.boot_tape.specs.declared.trace.Trace.{Trace}
+use Rattle.boot_tape.specs.declared.tracer.Tracer.{Tracer}
+use Rattle.boot_tape.specs.Traces.{behind, came_of, moves_in, noted, own_steps, step_numbers, trace, traced}
+pub use Rattle.boot_tape.specs.CutMoves.{CutMoves, cut_moves, move_first}
+use Rattle.boot_tape.specs.Tracing.{HasTraced, first_steps}
+use Rattle.pico_board.specs.Board.{State as BoardState}
+use Rattle.pico_board.specs.declared.Step.{Step}
+use Rattle.pico_board.specs.Cuts.{Cut, IsPattern, cut_by, cut_with}
+use Rattle.boot_tape.specs.declared.notes.Came.{Came}
+use Rattle.boot_tape.specs.declared.trace.ArmedCut.{ArmedCut}
+use Rattle.boot_tape.specs.Moving.{AreMovesIn, MoveView, Done, Torn, after_moves, done_count, moves_from, traced_by}
+
+-- the armed cut as plain data
+abbrev pub cut_from : ArmedCut → Cut
+cut_from cut = record { left = cut.left; within = cut.within; pattern = cut.pattern.now }
+
+-- the cut that the script has armed
+abbrev pub told_of : Trace → Option Cut
+told_of trace = option_map cut_from trace.armed
+
+-- its pattern is as a bench asks
+abbrev pub HasPattern : Option Cut → Type 0
+HasPattern None = ⊤
+HasPattern (Some cut) = IsPattern cut.within cut.pattern
+
+-- the trace with another armed cut
+abbrev pub with_cut : Trace → ArmedCut → Trace
+with_cut trace cut = record {
+  board = trace.board;
+  moves = trace.moves;
+  numbers = trace.numbers;
+  done = trace.done;
+  armed = Some cut;
+  notes = trace.notes;
+}
+
+-- the trace with the notes of another one
+abbrev pub with_notes : Trace → Trace → Trace
+with_notes trace other = record {
+  board = trace.board;
+  moves = trace.moves;
+  numbers = trace.numbers;
+  done = trace.done;
+  armed = trace.armed;
+  notes = other.notes;
+}
+
+abbrev pub flash_long : Trace → ℕ
+flash_long trace = length (state_of trace.board).content.flash
+
+-- the board has power and no armed cut, and what was done lies in its flash. The pattern of the
+-- script's cut is as a bench asks.
+pub record IsReady (trace : Trace) : Type 0 where
+  pub unarmed : IsUnarmed (state_of trace.board)
+  pub pattern : HasPattern (told_of trace)
+  pub inside : AreMovesIn (flash_long trace) trace.moves.items
+
+-- a step of the event of this number completed; the cut that is armed stays
+pub record HasCompleted (old : Trace) (step : Step) (number : ℕ) (new : Trace) : Type 0 where
+  pub numbers : new.numbers.items ≡ old.numbers.items ++ number ∷ []
+  pub moves : moves_from new.moves.items ≡ moves_from old.moves.items ++ Done step ∷ []
+  pub armed : new.armed ≡ old.armed
+  pub content : (state_of new.board).content ≡ after (state_of old.board).content step
+  pub done : new.done ≡ old.done + 1
+  pub size : flash_long new ≡ flash_long old
+  pub notes : new.notes ≡ old.notes
+
+-- the armed cut cut the step
+pub record HasLost (old : Trace) (step : Step) (cut : Cut) (new : Trace) : Type 0 where
+  pub numbers : new.numbers.items ≡ old.numbers.items
+  pub moves : moves_from new.moves.items
+      ≡ moves_from old.moves.items ++ Torn step cut.within cut.pattern ∷ []
+  pub armed : new.armed ≡ None
+  pub content : (state_of new.board).content
+      ≡ cut_by (cut_with 0 cut.within cut.pattern) (state_of old.board).content step
+  pub done : new.done ≡ old.done
+  pub size : flash_long new ≡ flash_long old
+  pub notes : new.notes ≡ old.notes
+
+-- the trace has these moves of the event of this number more, and the board is as they leave it
+pub record IsLeftBy (old : Trace) (w : CutMoves) (number : ℕ) (whole : Bool) (new : Trace)
+    : Type 0 where
+  pub numbers : new.numbers.items ≡ old.numbers.items ++ replicate (done_count w.moves) number
+  pub moves : moves_from new.moves.items ≡ moves_from old.moves.items ++ w.moves
+  pub whole_ : whole ≡ w.whole
+  pub armed : told_of new ≡ w.armed
+  pub content : (state_of new.board).content
+      ≡ after_moves (state_of old.board).content w.moves
+  pub done : new.done ≡ old.done + done_count w.moves
+  pub size : flash_long new ≡ flash_long old
+  pub notes : new.notes ≡ old.notes
+
+-- the steps were done up to the one that the armed cut cut
+abbrev pub HasTaken : Trace → List Step → ℕ → Bool → Trace → Type 0
+HasTaken old steps number whole new = IsLeftBy old (cut_moves (told_of old) steps) number whole new
+
+-- the machine with no cut armed
+abbrev pub bare : MachineView → MachineView
+bare m = record { content = m.content; armed = Some None; cpu = m.cpu; place = m.place }
+
+-- the trace is that of the events before those that are left, which lead m to mid. The first of
+-- these has the number k.
+pub record IsPlayedTo (trace : Trace) (m : MachineView) (all left : List EventView) (k : ℕ)
+    (mid : MachineView) : Type 0 where
+  pub told : mid.armed ≡ Some (told_of trace)
+  pub cpu : mid.cpu ≡ m.cpu
+  pub content : mid.content ≡ (state_of trace.board).content
+  pub moved : (state_of trace.board).content
+      ≡ after_moves m.content (moves_from trace.moves.items)
+  pub steps : traced_by m.content (moves_from trace.moves.items) ++ traced mid left
+      ≡ traced m all
+  pub numbers : trace.numbers.items ++ step_numbers k mid left ≡ step_numbers 0 m all
+  pub moves : moves_from trace.moves.items ++ moves_in mid left ≡ moves_in m all
+  pub notes : trace.notes.items ++ noted mid left ≡ noted m all
+  pub last : (played mid left).last.content ≡ (played m all).last.content
+  pub counted : trace.done ≡ done_count (moves_from trace.moves.items)
+  pub size : flash_long trace ≡ length m.content.flash
+
+-- the board that a tracer stands round
+abbrev pub traced_state : Tracer MemBoard → BoardState
+traced_state tracer = state_of tracer.bench
+
+-- the machine stands for mid but for the cut, and its tracer has kept no more steps than completed
+pub record IsFollowed (machine : Parts (Tracer MemBoard)) (trace : Trace) (mid : MachineView)
+    : Type 0 where
+  pub stands : Stands traced_state machine (bare mid)
+  pub few : length machine.board.steps.items ≤ trace.done
+  pub inside : AllByRecursion (IsStepIn (length mid.content.flash)) machine.board.steps.items
+
+-- a play on its way
+pub record IsPlay (machine : Parts (Tracer MemBoard)) (trace : Trace) (m : MachineView)
+    (all left : List EventView) (k : ℕ) : Type 0 where
+  pub mid : MachineView
+  pub to : IsPlayedTo trace m all left k mid
+  pub followed : IsFollowed machine trace mid
+
+-- an event was played, so the trace is that of one event more. The machine stands where all its
+-- steps completed, and otherwise is off; or too many steps completed.
+pub record HasFollowed (whole : Bool) (machine : Parts (Tracer MemBoard)) (trace : Trace)
+    (m : MachineView) (all left : List EventView) (k : ℕ) : Type 0 where
+  pub mid : MachineView
+  pub to : IsPlayedTo trace m all left k mid
+  pub goes : whole ≡ true → IsFollowed machine trace mid
+  pub stops : whole ≡ false → mid.place ≡ Off
+
+-- so many steps completed that the whole trace is too long
+abbrev pub IsLong : Trace → MachineView → List EventView → Type 0
+IsLong trace m all = 262144 < trace.done → 262144 < length (traced m all)
+
+-- the cut that an event arms
+abbrev pub cut_in : EventView → Option Cut
+cut_in (EventView.Cut left within pattern) = Some (cut_with left within pattern)
+cut_in event = None
+
+-- an event did its steps whole, from m on, and the tracer has traced them
+pub record IsStepped (old : Parts (Tracer MemBoard)) (m : MachineView) (e : Effect)
+    (new : Parts (Tracer MemBoard)) : Type 0 where
+  pub stands : Stands traced_state new (record {
+    content = after_all m.content e.steps;
+    armed = Some None;
+    cpu = m.cpu;
+    place = e.place;
+  })
+  pub traced_ : Extends (HasTraced state_of) old.board e.steps new.board
+
+-- An event did its steps whole, from m on. What came of it is told, with how many of the steps that
+-- it did itself the tracer has kept.
+pub record HasCome (old : Parts (Tracer MemBoard)) (m : MachineView) (event : EventView)
+    (came : Came) (new : Parts (Tracer MemBoard)) : Type 0 where
+  pub did : IsStepped old m (effect m event) new
+  pub outcome : came.outcome ≡ came_of m event
+  pub behind_ : came.behind ≡ behind m event
+  pub own : (h : List Step) → HasTraced state_of old.board h
+      → came.own ≡ length (first_steps (h ++ own_steps m event)) - length (first_steps h)
+
+-- what makes the moves of an event that is not served, by what the machine is doing
+abbrev pub behind_in : State → EventView → Behind
+behind_in states.Off EventView.PowerOn = behinds.Boot Normal
+behind_in states.Off event = behinds.Nothing
+behind_in states.Bootsel (EventView.Reset kind) = behinds.Boot kind
+behind_in states.Bootsel event = behinds.Nothing
+behind_in (states.Running image) (EventView.Reset kind) = behinds.Boot kind
+behind_in (states.Running image) EventView.Buy = behinds.Buy image
+behind_in (states.Running image) event = behinds.Nothing
+
+-- what a boot does that a host's event asks for, if it asks for one
+abbrev pub asked_effect : MachineView → Option BootKind → Effect
+asked_effect m None = stays_with m.place event_outcomes.Ignored
+asked_effect m (Some kind) = effect m (EventView.Reset kind)
+
+-- the trace of a script is this one
+pub record IsTraceOf (c : Content) (cpu : Cpu) (events : List EventView) (found : Trace)
+    : Type 0 where
+  pub ready : IsReady found
+  pub steps : traced_by c (moves_from found.moves.items) ≡ (trace c cpu events).done
+  pub numbers : found.numbers.items ≡ (trace c cpu events).numbers
+  pub moves : moves_from found.moves.items ≡ (trace c cpu events).moves
+  pub notes : found.notes.items ≡ (trace c cpu events).notes
+  pub content : (state_of found.board).content ≡ (trace c cpu events).last
+  pub moved : (state_of found.board).content ≡ after_moves c (moves_from found.moves.items)
+  pub short : length (trace c cpu events).done ≤ 262144
+  pub size : flash_long found ≡ length c.flash
+
+abbrev pub IsTracedTooLong : Content → Cpu → List EventView → Type 0
+IsTracedTooLong c cpu events = 262144 < length (trace c cpu events).done

@@ -1,0 +1,3 @@
+//! Worked examples: each is the `ensures` of a function that does nothing.
+
+pub mod notes;

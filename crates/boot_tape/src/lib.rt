@@ -1,0 +1,24 @@
+//! The play of a script, told step by step: what it does to a board, and what comes of each event.
+//!
+//! `specs/Traces` says which steps a script completes and what is noted of each event, `specs/Doers`
+//! who does each step. What the events of a script do stands in `boot_machine` and `boot_plays`,
+//! and what the loss of power leaves in `pico_board`.
+#![tactic(auto)]
+
+mod acting;
+mod copying;
+pub mod examples;
+pub mod laws;
+mod moves;
+mod notes;
+mod playing;
+mod trace;
+mod tracer;
+mod tracing;
+
+pub use copying::copy_of;
+pub use moves::Move;
+pub use notes::{Behind, Doer, Note, doers_of};
+pub use playing::trace_on;
+pub use trace::Trace;
+pub use tracer::TRACE_LIMIT;

@@ -1,0 +1,257 @@
+//! The play of a script, which finds what it does to a board.
+
+ghost use Rattle.std.specs.Prelude.{◌≡◌, ◌+◌, ◌≤◌, ◌<◌, ◌∷◌, ◌&&◌, [], true, false, IfOk, OnOk, IsTrue, MatchOption, None, Some, List, length, option_map};
+ghost use Rattle.pico_board.specs.MemBoard.{state_of};
+ghost use Rattle.boot_script.specs.Events.{EventView, IsWritableEvent, event_from};
+ghost use Rattle.boot_script.specs.Scripts.{script_events};
+ghost use Rattle.boot_session.specs.Standing.{IsUnarmed};
+ghost use Rattle.boot_machine.specs.Machines.{MachineView};
+ghost use Rattle.boot_machine.specs.Moves.{armed_for};
+ghost use Rattle.boot_machine.specs.Serving.{is_hosted};
+ghost use Rattle.boot_machine.specs.Standing.{Stands, is_bootsel};
+ghost use Rattle.boot_plays.specs.Plays.{powerless};
+ghost use Rattle.boot_tape.specs.Traces.{behind_asked};
+ghost use Rattle.boot_tape.specs.Playing.{HasCome, HasFollowed, IsLong, IsPlay, IsReady, IsStepped, IsTraceOf, IsTracedTooLong, asked_effect, behind_in, cut_from, cut_in, traced_state};
+
+use crate::copying::copy_of;
+use crate::notes::{Behind, Came};
+use crate::trace::{ArmedCut, Trace};
+use crate::tracer::{TRACE_LIMIT, Tracer};
+use boot_machine::laws::run::only_lost_power_says_so;
+use boot_machine::{Machine, Served, State};
+use boot_script::{Event, Script};
+use pico_board::{BootKind, Cpu, MemBoard};
+use ram_start::Ram;
+use sector_pool::SectorPool;
+use std::alloc::{AllocError, Global};
+use uf2_place::Download;
+
+/// A machine without power, over a copy of a board. No cut is ever armed on it.
+fn machine_of(
+    alloc: Global,
+    board: &MemBoard,
+    cpu: Cpu,
+) -> Result<Machine<Tracer<MemBoard>>, AllocError>
+    requires { IsTrue (state_of board.now).powered }
+    ensures stands { IfOk result (λ machine. Stands traced_state machine
+        (powerless (state_of board.now).content cpu)) }
+    ensures none { IfOk result (λ machine. machine.board.steps.items ≡ []) }
+{
+    let tracer = Tracer::make(alloc, copy_of(alloc, board)?)?;
+    let pool = SectorPool::make(alloc, 2)?;
+    let download = Download::make(alloc)?;
+    let ram = Ram::make(alloc)?;
+    Ok(Machine::new(tracer, pool, download, ram, cpu))
+}
+
+/// The cut that an event arms.
+fn armed_by<'a>(event: &Event<'a>) -> Option<ArmedCut<'a>>
+    ensures { option_map cut_from result ≡ cut_in (event_from event.now) }
+{
+    match event {
+        Event::Cut(left, within, pattern) => Some(ArmedCut {
+            left: *left,
+            within: *within,
+            pattern: *pattern,
+        }),
+        _ => None,
+    }
+}
+
+/// Whether an event is for a host, and the machine is in BOOTSEL.
+fn is_served(machine: &Machine<Tracer<MemBoard>>, event: &Event<'_>) -> bool
+    ensures { result ≡ (is_bootsel machine.now.state && is_hosted (event_from event.now)) }
+{
+    match machine.state() {
+        State::Bootsel => match event {
+            Event::Command(_, _) | Event::Uf2(_) => true,
+            _ => false,
+        },
+        State::Off | State::Running(_) => false,
+    }
+}
+
+/// The boot that a host's event asked for.
+fn behind_asked(asked: Option<BootKind>) -> Behind
+    ensures { result ≡ behind_asked asked }
+{
+    match asked {
+        Some(kind) => Behind::Boot(kind),
+        None => Behind::Nothing,
+    }
+}
+
+/// What makes the moves of an event that is not served, by what the machine is doing.
+fn behind_event(state: &State, event: &Event<'_>) -> Result<Behind, AllocError>
+    ensures { IfOk result (λ found. found ≡ behind_in state.now (event_from event.now)) }
+{
+    match state {
+        State::Off => match event {
+            Event::PowerOn => Ok(Behind::Boot(BootKind::Normal)),
+            _ => Ok(Behind::Nothing),
+        },
+        State::Bootsel => match event {
+            Event::Reset(kind) => Ok(Behind::Boot(*kind)),
+            _ => Ok(Behind::Nothing),
+        },
+        State::Running(image) => match event {
+            Event::Reset(kind) => Ok(Behind::Boot(*kind)),
+            Event::Buy => Ok(Behind::Buy(image.clone()?)),
+            _ => Ok(Behind::Nothing),
+        },
+    }
+}
+
+/// Makes the boot that a host's event asked for.
+fn boot(machine: &mut Machine<Tracer<MemBoard>>, asked: Option<BootKind>)
+    ensures { (m : MachineView) → Stands traced_state machine.old m → m.armed ≡ Some None
+        → IsStepped machine.old m (asked_effect m asked) machine.new }
+{
+    only_lost_power_says_so();
+    match asked {
+        Some(kind) => {
+            machine.advance(&Event::Reset(kind));
+        }
+        None => {}
+    }
+}
+
+/// Serves a host's event in BOOTSEL, and makes the boot that it asks for.
+fn serve(machine: &mut Machine<Tracer<MemBoard>>, event: &Event<'_>) -> Came
+    requires served { (is_bootsel machine.old.state && is_hosted (event_from event.now)) ≡ true }
+    requires writable { IsWritableEvent (event_from event.now) }
+    ensures { (m : MachineView) → Stands traced_state machine.old m
+        → armed_for m.armed (event_from event.now) ≡ Some None
+        → HasCome machine.old m (event_from event.now) result machine.new }
+{
+    let former = machine.board().steps.as_slice().len();
+    let Served {
+        outcome,
+        boot: asked,
+    } = machine.answer(event);
+    let now = machine.board().steps.as_slice().len();
+    boot(machine, asked);
+    Came {
+        outcome,
+        own: now.saturating_sub(former),
+        behind: behind_asked(asked),
+    }
+}
+
+/// What an event does that BOOTSEL does not serve.
+fn pass(machine: &mut Machine<Tracer<MemBoard>>, event: &Event<'_>) -> Result<Came, AllocError>
+    requires other { (is_bootsel machine.old.state && is_hosted (event_from event.now)) ≡ false }
+    requires writable { IsWritableEvent (event_from event.now) }
+    ensures { IfOk result (λ came. (m : MachineView) → Stands traced_state machine.old m
+        → armed_for m.armed (event_from event.now) ≡ Some None
+        → HasCome machine.old m (event_from event.now) came machine.new) }
+{
+    only_lost_power_says_so();
+    let behind = behind_event(machine.state(), event)?;
+    let outcome = machine.advance(event);
+    Ok(Came {
+        outcome,
+        own: 0,
+        behind,
+    })
+}
+
+/// What an event does to a machine on whose board no cut is armed.
+fn step(machine: &mut Machine<Tracer<MemBoard>>, event: &Event<'_>) -> Result<Came, AllocError>
+    requires { IsWritableEvent (event_from event.now) }
+    ensures { IfOk result (λ came. (m : MachineView) → Stands traced_state machine.old m
+        → armed_for m.armed (event_from event.now) ≡ Some None
+        → HasCome machine.old m (event_from event.now) came machine.new) }
+{
+    if is_served(machine, event) {
+        Ok(serve(machine, event))
+    } else {
+        pass(machine, event)
+    }
+}
+
+/// Plays an event that arms no cut, of this number, and answers whether all its steps complete.
+fn play<'a>(
+    machine: &mut Machine<Tracer<MemBoard>>,
+    trace: &mut Trace<'a>,
+    event: &Event<'a>,
+    number: u32,
+) -> Result<bool, AllocError>
+    requires writable { IsWritableEvent (event_from event.now) }
+    requires uncut { cut_in (event_from event.now) ≡ None }
+    requires ready { IsReady trace.old }
+    requires short { trace.old.done ≤ 262144 }
+    requires play { (m : MachineView) × (all : List EventView) × (left : List EventView)
+        × IsPlay machine.old trace.old m all left number }
+    ensures ready { OnOk result (IsReady trace.new) }
+    ensures played { IfOk result (λ whole. (m : MachineView) (all left : List EventView)
+        → IsPlay machine.old trace.old m all (event_from event.now ∷ left) number
+        → IsLong trace.new m all
+        × (trace.new.done ≤ 262144
+        → HasFollowed whole machine.new trace.new m all left (number + 1))) }
+{
+    let former = machine.board().steps.as_slice().len();
+    let moved = trace.moves.as_slice().len();
+    let came = step(machine, event)?;
+    let whole = trace.take_steps(&machine.board().steps[former..], number)?;
+    trace.note(came, moved, whole)?;
+    Ok(whole)
+}
+
+/// Plays an event of this number. The armed cut stands beside the machine. The machine's board does
+/// all steps of the event, so that they are known. A machine whose power the cut loses is made
+/// anew.
+fn follow<'a>(
+    alloc: Global,
+    machine: &mut Machine<Tracer<MemBoard>>,
+    trace: &mut Trace<'a>,
+    cpu: Cpu,
+    event: &Event<'a>,
+    number: u32,
+) -> Result<(), AllocError>
+    requires writable { IsWritableEvent (event_from event.now) }
+    requires ready { IsReady trace.old }
+    requires short { trace.old.done ≤ 262144 }
+    requires play { (m : MachineView) × (all : List EventView) × (left : List EventView)
+        × IsPlay machine.old trace.old m all left number }
+    ensures ready { OnOk result (IsReady trace.new) }
+    ensures played { OnOk result ((m : MachineView) (all left : List EventView)
+        → m.cpu ≡ cpu → IsPlay machine.old trace.old m all (event_from event.now ∷ left) number
+        → IsLong trace.new m all
+        × (trace.new.done ≤ 262144 → IsPlay machine.new trace.new m all left (number + 1))) }
+{
+    if let Some(cut) = armed_by(event) {
+        trace.arm(cut)?;
+        return Ok(());
+    }
+    if !play(machine, trace, event, number)? {
+        *machine = machine_of(alloc, &trace.board, cpu)?;
+    }
+    Ok(())
+}
+
+/// Plays a script on a board, on a machine that starts without power. The answer is what it does
+/// to the board; none where more than 262,144 steps complete.
+pub fn trace_on<'a>(
+    alloc: Global,
+    board: MemBoard,
+    cpu: Cpu,
+    script: &Script<'a>,
+) -> Result<Option<Trace<'a>>, AllocError>
+    requires { IsUnarmed (state_of board) }
+    ensures { IfOk result (λ found. MatchOption found
+        (IsTracedTooLong (state_of board).content cpu (script_events script.now.bytes.now))
+        (IsTraceOf (state_of board).content cpu (script_events script.now.bytes.now))) }
+{
+    let mut machine = machine_of(alloc, &board, cpu)?;
+    let mut trace = Trace::begin(alloc, board);
+    let mut number = 0;
+    for event in script.events() {
+        follow(alloc, &mut machine, &mut trace, cpu, &event, number)?;
+        if trace.done > TRACE_LIMIT {
+            return Ok(None);
+        }
+        number += 1;
+    }
+    Ok(Some(trace))
+}

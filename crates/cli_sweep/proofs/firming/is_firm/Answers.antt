@@ -1,9 +1,0 @@
-use Rattle.pico_board.specs.Content.{window_bytes}
-use Rattle.pico_board.specs.MemBoard.{state_of}
-use Rattle.cli_sweep.proofs.FirmnessLemmas.{firm-answered}
-use Rattle.cli_sweep.proofs.firming.is_firm.Goals as goal
-
-pub returns : goal.returns
-returns c =
-    firm-answered c.args.cpu (window_bytes (state_of c.args.board.now).content c.args.window) c.args.started.now
-    c.firm.result c.requires.held c.firm.ensures
