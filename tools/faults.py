@@ -54,6 +54,8 @@ unit {} not-reached|unit {} takes|updated|version|w|whole
 caveat {name} {}|caveat {name} partition={}|caveat {name} {} at={}|{} {} bytes={}|{} {}{}|{} rows={}|cmd 0x|load|plan|s
 {} event={} {}{}|{}{}{}|cuts former={} finished={} bootsel={} other={}|former {}end {}effect {}|image hash={}|image none
 law confined|law gated|records ok|rows raised={}{}{}
+again no step={}|again no table|again no target|again yes|data {} of={} written={} torn={}|torn
+records refused={} first={}|records unfinished={}
 gated|stage {} bytes={} order={}|staged
 """
 

@@ -9,3 +9,4 @@ mod StageStepLemmas
 mod StageByteLemmas
 mod StagePlanLemmas
 mod ExampleLemmas
+mod ToldLemmas

@@ -35,7 +35,7 @@ use Rattle.law_plans.specs.Written.{plan_steps, planned, whole_pages}
 use Rattle.law_plans.proofs.PlanByteLemmas.{plan-writes}
 use Rattle.law_plans.proofs.PlannedLemmas.{length-pages, length-written, planned-erased, planned-image, sectors-of-pages}
 use Rattle.cli_stage.specs.StageRules.{IsStageOf, written}
-use Rattle.law_staged.specs.Staged.{IsOffPage, Staged}
+use Rattle.check_laws.specs.Staged.{IsOffPage, Staged}
 use Rattle.law_staged.specs.StagedPlans.{stage_steps}
 use Rattle.law_staged.proofs.StageByteLemmas.{stage-plan}
 use Rattle.law_staged.proofs.StageStepLemmas.{front, front-off, last_bytes, session-steps, steps-gated, steps-last}

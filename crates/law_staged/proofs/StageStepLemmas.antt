@@ -24,7 +24,7 @@ use Rattle.boot_session.specs.Sessions.{session}
 use Rattle.boot_session.proofs.PlanServedLemmas.{Known}
 use Rattle.boot_session.proofs.PlanSlotLemmas.{IsSlot}
 use Rattle.boot_session.proofs.PlanStepLemmas.{all-append, erases-confined, erases-elsewhere, programs-confined, programs-distinct, programs-elsewhere, programs-in}
-use Rattle.law_staged.specs.Staged.{IsOffPage}
+use Rattle.check_laws.specs.Staged.{IsOffPage}
 use Rattle.law_staged.specs.StagedPlans.{rest_steps, stage_steps}
 use Rattle.law_staged.proofs.StageSessionLemmas.{erase-then, last-served, part-served, rest-served, run}
 

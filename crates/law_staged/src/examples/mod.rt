@@ -3,6 +3,10 @@
 ghost use Rattle.std.specs.Prelude.{◌≡◌, [], ◌∷◌, ◌++◌, replicate};
 ghost use Rattle.pico_board.specs.declared.Step.TheVariants.{Erase, Program};
 ghost use Rattle.pico_board.specs.declared.boot.Cpu.TheVariants.{Arm};
+ghost use Rattle.pico_board.specs.Content.{window_bytes};
+ghost use Rattle.pico_board.specs.Steps.{after_all};
+ghost use Rattle.block_codec.specs.Blocks.{BlockView};
+ghost use Rattle.block_loop.specs.Loop.{IsFirstBlock};
 ghost use Rattle.boot_rules.specs.declared.decision.Decision.TheVariants.{Start};
 ghost use Rattle.worked_flashes.specs.Choices.{former_start};
 ghost use Rattle.worked_flashes.specs.Flashes.{bare, beside_former};
@@ -15,7 +19,9 @@ use boot_session::examples::session::a_cut_between_two_pages;
 /// Version 1.10, an image without a digest and with one block, is written beside 1.9: the slot's
 /// first sector is erased, and the page of the block comes last.
 pub fn a_staged_session()
-    ensures { StagedSession (beside_former bare) slot Arm plain_steps (Start former_start) }
+    ensures session { StagedSession (beside_former bare) slot Arm plain_steps (Start former_start) }
+    ensures first { (b : BlockView)
+        × IsFirstBlock (window_bytes (after_all (beside_former bare) plain_steps) slot) b }
 {
     a_cut_between_two_pages();
 }

@@ -1,0 +1,12 @@
+pub mod TouchLemmas
+pub mod LineLemmas
+pub mod MemberLemmas
+pub mod EffectLemmas
+pub mod WriterLemmas
+pub mod ImageLemmas
+pub mod LostLemmas
+pub mod BootLemmas
+pub mod FlashLemmas
+pub mod TableLemmas
+pub mod RaiseLemmas
+pub mod ToldLemmas

@@ -1,0 +1,14 @@
+mod PoolLemmas
+mod OpenLemmas
+mod RefusalLemmas
+mod BlockLemmas
+mod OtherLemmas
+mod ServedLemmas
+mod SightLemmas
+mod PlayLemmas
+mod UnerasedLemmas
+mod EraseLemmas
+mod RepeatLemmas
+mod AgainLemmas
+mod CaveatLemmas
+mod HoldLemmas
