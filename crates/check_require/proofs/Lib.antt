@@ -1,3 +1,4 @@
 mod ValueLemmas
 pub mod RuleLemmas
+pub mod TextLemmas
 pub mod VerdictLemmas

@@ -7,4 +7,5 @@ pub mod Requires
 pub mod Reports
 pub mod Meeting
 pub mod Rules
+pub mod Texts
 pub mod Examples

@@ -15,7 +15,7 @@ mod requirement;
 pub use caveats::{CAVEAT_NAMES, CaveatName};
 pub use meeting::{Verdict, is_met, unmet, verdict_on};
 pub use members::{MEMBERS, Member};
-pub use reading::require_of;
+pub use reading::{default_require, require_of};
 pub use report::{
     CaveatFound, ClassCounts, CutClass, DataFound, DataOwner, DataWritten, ImageEffect,
     LawOfWrites, Report, SessionLaw, StartFound, Writer, WrittenFound,

@@ -5,6 +5,7 @@ ghost use Rattle.serde_json.specs.Data.{Data};
 ghost use Rattle.serde_json.specs.Find.{as_bool};
 ghost use Rattle.serde_json.specs.View.{view};
 ghost use Rattle.check_require.specs.Forms.{allowances_form, allowed_caveats_form, effect_form, session_form, version_form};
+ghost use Rattle.check_require.specs.Texts.{IsRequireFault, IsRequireText, require_read};
 ghost use Rattle.check_require.specs.Requires.{IsJsonText, allowed_of, asked, default_caveats, default_require, items_answer, object_judged, require_answer, require_from, require_of_value};
 
 use crate::Member;
@@ -171,11 +172,8 @@ fn require_in(alloc: Global, value: &Value) -> Result<Require, RequireFault>
     })
 }
 
-/// What a JSON text asks of an update, or its first fault. NotJson comes exactly where the bytes
-/// are not UTF-8 or no JSON value that nests at most 127 deep. Else the first fault of the value's
-/// object comes, its members judged in the order of [`MEMBERS`](crate::MEMBERS). Where there is no
-/// memory the answer is `Memory`. The texts are this project's own.
-pub fn require_of(alloc: Global, text: &[u8]) -> Result<Require, RequireFault>
+/// What a text's one value asks, or its first fault.
+fn read_require(alloc: Global, text: &[u8]) -> Result<Require, RequireFault>
     ensures asks { IfOk result (λ r. (d : Data) × IsJsonText text.now d
         × (require_of_value d ≡ Ok (require_from r))) }
     ensures first { IfErr result
@@ -187,4 +185,42 @@ pub fn require_of(alloc: Global, text: &[u8]) -> Result<Require, RequireFault>
 {
     let value = read(alloc, text)?;
     require_in(alloc, &value)
+}
+
+/// What a JSON text asks of an update, or its first fault. NotJson comes exactly where the bytes
+/// are not UTF-8 or no JSON value that nests at most 127 deep. Else the first fault of the value's
+/// object comes, its members judged in the order of [`MEMBERS`](crate::MEMBERS). Where there is no
+/// memory the answer is `Memory`. The texts are this project's own.
+pub fn require_of(alloc: Global, text: &[u8]) -> Result<Require, RequireFault>
+    ensures function { result ≢ Err RequireFault.Memory
+        → require_answer result ≡ require_read text.now }
+    ensures asks { IfOk result (λ r. IsRequireText text.now (require_from r)) }
+    ensures first { IfErr result
+        (λ fault. fault ≢ RequireFault.Memory → IsRequireFault text.now fault) }
+{
+    read_require(alloc, text)
+}
+
+/// What is asked of an update where there is no text. It fails only where memory is out.
+pub fn default_require(alloc: Global) -> Result<Require, AllocError>
+    ensures { IfOk result (λ r. require_from r ≡ default_require) }
+{
+    Ok(Require {
+        effect: WantedEffect::Image,
+        records: true,
+        written: true,
+        keep: true,
+        whole_data: true,
+        cuts: default_cuts(alloc)?,
+        version: VersionAsk::Any,
+        fallback: false,
+        again: false,
+        covered: true,
+        hash: false,
+        no_rows: false,
+        session: SessionAsk::Any,
+        boot: false,
+        buy: false,
+        caveats: default_caveats(alloc)?,
+    })
 }
