@@ -4,9 +4,12 @@
     rules.py
 
 A rule is a row of a table with seven columns: its name, what it says, its source, and where it
-stands: definition, code, law, worked row. A place is a file below crates/ and a name in it. Each
-file of definitions that names a public source has to be on the page: as the definition of a rule,
-or in the table of where a rule is said again. Prints what is wrong; the status is 1 then.
+stands: definition, code, law, worked row. A caveat is such a row too, with the rules that it is
+beside in place of a source. A place is a file below crates/ and a name in it. The comments of a
+definition's file have to name the source that the page gives. Each file of definitions that names
+a public source has to be on the page: as the place of a definition, in the table of where a rule
+is said again, or, with a reason, in the table of what is no rule. The caveats are those of
+docs/REFERENCE.md. Prints what is wrong; the status is 1 then.
 """
 
 import os
@@ -15,11 +18,26 @@ import sys
 
 ROOT = os.path.dirname(os.path.dirname(os.path.abspath(__file__)))
 PAGE = os.path.join(ROOT, "docs", "RULES.md")
+REFERENCE = os.path.join(ROOT, "docs", "REFERENCE.md")
 CRATES = os.path.join(ROOT, "crates")
-SOURCES = re.compile(r"datasheet|UF2\s+specification|picotool", re.IGNORECASE)
-NAME = re.compile(r"`([a-z][a-z0-9-]*)`$")
-PLACE = re.compile(r"`([\w/]+\.(?:antt|rt))`: `([\w-]+)`$")
-KNOWN = {"datasheet", "own", "datasheet, own where it is open", "UF2 specification"}
+
+SOURCES = re.compile(r"datasheet|\bspecification\b|picotool|PICOBOOT interface|\bRFC \d|\bXML \d", re.IGNORECASE)
+NAME = re.compile(r"`[a-z][a-z0-9-]*`$")
+CAVEAT = re.compile(r"`caveat ([a-z0-9-]+)`$")
+FILE = re.compile(r"`(\w+/specs/\w+\.antt)`")
+SENTENCE = re.compile(r"[A-Z].*[^.]\.$")
+
+# A place: which files it may name, and how the name stands there.
+PLACES = {
+    "definition": (r"`(\w+/specs/\w+\.antt)`: `([\w-]+)`$", r"^(?:\w+ )?pub (?:record |data )?{}(?![\w-])"),
+    "code": (r"`(\w+/src/\w+\.rt)`: `(\w+)`$", r"^\s*(?:[\w()]+ )*fn {}\b"),
+    "law": (r"`(\w+/src/laws/\w+\.rt)`: `(\w+)`$", r"^pub fn {}\b"),
+}
+
+# A part of a source, and what the comments of the definition's file have to have.
+CHAPTER = re.compile(r'datasheet (\d+(?:\.\d+)?)(?:, "([^"]+)")?$')
+OWN = re.compile(r"(?:own|own where it is open|[a-z ]+ (?:is|are) own)$")
+OTHERS = {"UF2 specification", "picotool"}
 
 
 def text_of(path):
@@ -27,19 +45,25 @@ def text_of(path):
         return file.read()
 
 
+def comments_of(path):
+    """The comments of a file of definitions, as one line."""
+    lines = (it.strip() for it in text_of(path).splitlines())
+    return " ".join(" ".join(it[2:] for it in lines if it.startswith("--")).split())
+
+
 def rows_of(page):
     """The cells of each row of a table but its head."""
     for line in page.splitlines():
-        cells = [it.strip() for it in line.strip("|").split("|")]
         if line.startswith("| `"):
-            yield cells
+            yield [it.strip() for it in line.strip().strip("|").split("|")]
 
 
-def place_fault(cell, pattern):
-    """What is wrong with a place, whose name has to stand in the file as the pattern says."""
-    place = PLACE.match(cell)
+def place_fault(what, cell):
+    """What is wrong with a place."""
+    form, pattern = PLACES[what]
+    place = re.match(form, cell)
     if not place:
-        return f"is no place: {cell}"
+        return f"has no place of its {what}: {cell}"
     path = os.path.join(CRATES, place[1])
     if not os.path.isfile(path):
         return f"names a file that is not there: {place[1]}"
@@ -48,19 +72,67 @@ def place_fault(cell, pattern):
     return None
 
 
-def rule_faults(cells):
-    """What is wrong with the row of a rule."""
-    _, says, source, definition, code, law, row = cells
-    if not re.match(r"[A-Z].*\.$", says):
+def source_fault(part, comments):
+    """What is wrong with a part of a source, by the comments of the definition's file."""
+    chapter = CHAPTER.match(part)
+    if chapter:
+        number = re.escape(chapter[1])
+        here = re.search(rf"\b(?:chapters?|section) (?:\d+ \(\w+\) and )?{number}\b", comments)
+        if not here or "Datasheet" not in comments or (chapter[2] or "") not in comments:
+            return f"has a source that its definition's file does not name: {part}"
+    elif part in OTHERS:
+        if part not in comments:
+            return f"has a source that its definition's file does not name: {part}"
+    elif not OWN.match(part):
+        return f"has an unknown source: {part}"
+    return None
+
+
+def places_faults(says, definition, code, law, row):
+    if not SENTENCE.match(says):
         yield "says no sentence"
-    if source not in KNOWN:
-        yield f"has an unknown source: {source}"
-    yield place_fault(definition, r"\bpub\b.*(?<![\w-]){}(?![\w-])")
-    yield place_fault(code, r"\bfn {}\b")
+    yield place_fault("definition", definition)
+    yield place_fault("code", code)
     if law:
-        yield place_fault(law, r"^pub fn {}\b")
+        yield place_fault("law", law)
     if row and not os.path.isdir(os.path.join(ROOT, "rows", row.strip("`"))):
         yield f"names a row that is not there: {row}"
+
+
+def rule_faults(cells):
+    """What is wrong with the row of a rule."""
+    _, says, source, definition, *places = cells
+    yield from places_faults(says, definition, *places)
+    file = FILE.match(definition)
+    path = os.path.join(CRATES, file[1]) if file else ""
+    if os.path.isfile(path):
+        yield from (source_fault(it, comments_of(path)) for it in source.split("; "))
+
+
+def names_faults(cell, names):
+    """Which of the rules that a cell lists is none."""
+    yield from (f"names a rule that is not there: {it}" for it in cell.split(", ") if it not in names)
+
+
+def caveat_faults(cells, names):
+    """What is wrong with the row of a caveat."""
+    _, says, rules, *places = cells
+    yield from names_faults(rules, names)
+    yield from places_faults(says, *places)
+
+
+def other_faults(cells, names):
+    """What is wrong with a row of the tables of files: the rules that a file says again, or a reason."""
+    file = FILE.match(cells[0])
+    path = os.path.join(CRATES, file[1]) if file else ""
+    if not os.path.isfile(path):
+        yield "is no file of definitions"
+    elif not SOURCES.search(comments_of(path)):
+        yield "names no public source, so that it need not be listed"
+    if cells[1].startswith("`"):
+        yield from names_faults(cells[1], names)
+    elif not SENTENCE.match(cells[1]):
+        yield "has neither rules nor a reason"
 
 
 def sourced():
@@ -68,34 +140,44 @@ def sourced():
     for at, _, names in os.walk(CRATES):
         for name in names:
             path = os.path.relpath(os.path.join(at, name), CRATES)
-            if re.match(r"\w+/specs/.*\.antt$", path) and SOURCES.search(text_of(os.path.join(at, name))):
+            if re.match(r"\w+/specs/\w+\.antt$", path) and SOURCES.search(comments_of(os.path.join(at, name))):
                 yield path
 
 
-def faults():
-    page = text_of(PAGE)
-    rows = list(rows_of(page))
-    rules = [it for it in rows if len(it) == 7]
-    names = [it[0] for it in rules]
-    for cells in rules:
-        if not NAME.match(cells[0]) or names.count(cells[0]) > 1:
-            yield f"{cells[0]} is no name, or stands twice"
-        yield from (f"{cells[0]} {it}" for it in rule_faults(cells) if it)
-    for cells in rows:
-        if len(cells) == 2:
-            yield from (f"{cells[0]}: {it} is no rule" for it in cells[1].split(", ") if it not in names)
-            if not os.path.isfile(os.path.join(CRATES, cells[0].strip("`"))):
-                yield f"{cells[0]} is not there"
-    yield from (f"{it} names a public source, and is not on the page" for it in sorted(sourced()) if f"`{it}`" not in page)
+def row_faults(cells, names):
+    if len(cells) == 2:
+        return other_faults(cells, names)
+    if len(cells) != 7:
+        return [f"has {len(cells)} cells"]
+    if CAVEAT.match(cells[0]):
+        return caveat_faults(cells, names)
+    if NAME.match(cells[0]):
+        return rule_faults(cells)
+    return ["is no name of a rule"]
+
+
+def list_faults(rows):
+    """What is twice, what is missing, and what there is not."""
+    firsts = [it[0] for it in rows]
+    yield from (f"{it} stands twice" for it in sorted(set(firsts)) if firsts.count(it) > 1)
+    caveats = {it[1] for it in map(CAVEAT.match, firsts) if it}
+    printed = set(re.findall(r"(?m)^\| `caveat ([a-z0-9-]+)", text_of(REFERENCE)))
+    yield from (f"caveat {it} is not on the page" for it in sorted(printed - caveats))
+    yield from (f"caveat {it} is not in docs/REFERENCE.md" for it in sorted(caveats - printed))
+    listed = {it[1] for cells in rows for it in map(FILE.match, cells) if it}
+    yield from (f"{it} names a public source, and is not on the page" for it in sorted(set(sourced()) - listed))
 
 
 def main():
-    found = list(faults())
-    for it in found:
+    rows = list(rows_of(text_of(PAGE)))
+    names = {it[0] for it in rows if len(it) == 7 and NAME.match(it[0])}
+    wrong = [f"{cells[0]} {it}" for cells in rows for it in row_faults(cells, names) if it]
+    wrong += list_faults(rows)
+    for it in wrong:
         print(f"docs/RULES.md: {it}")
-    if not found:
-        print(f"docs/RULES.md: {sum(len(it) == 7 for it in rows_of(text_of(PAGE)))} rules, each with its places")
-    return 1 if found else 0
+    if not wrong:
+        print(f"docs/RULES.md: {len(names)} rules, each with its places")
+    return 1 if wrong else 0
 
 
 if __name__ == "__main__":
