@@ -40,7 +40,7 @@ PROVED = crates/boot_cli/out/boot_cli
 UNPROVED = out/dugnatsew
 PACK = crates/test_rows/data/rows.txt
 SESSIONS = README.md docs/GUIDE.md docs/TUTORIAL.md docs/MODEL.md
-USERS = docs/GUIDE.md docs/TUTORIAL.md docs/REFERENCE.md docs/PROMISE.md docs/PROVED.md docs/FAQ.md docs/MODEL.md docs/CHIP.md docs/FAULTS.md docs/GLOSSARY.md
+USERS = docs/GUIDE.md docs/TUTORIAL.md docs/REFERENCE.md docs/PROMISE.md docs/PROVED.md docs/FAQ.md docs/MODEL.md docs/CHIP.md docs/RULES.md docs/chart.svg docs/FAULTS.md docs/GLOSSARY.md
 KIT = $(addprefix real/board/,README.md cases.py contents.py fake.py make.py picoboot.py play.py usb_link.py probe.S probe_riscv.S sheet.tsv)
 
 # The newer of the two programs.
