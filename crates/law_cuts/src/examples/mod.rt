@@ -8,14 +8,17 @@ ghost use Rattle.pico_board.specs.declared.boot.Cpu.TheVariants.{Arm};
 ghost use Rattle.boot_script.specs.Events.{Cut};
 ghost use Rattle.boot_session.specs.Sessions.{session};
 ghost use Rattle.boot_sweep.specs.declared.results.CutResult.TheVariants.{Chance};
+ghost use Rattle.boot_sweep.specs.Refusals.{StartsIn};
 ghost use Rattle.boot_sweep.specs.Sweeps.{sweep_lines};
 ghost use Rattle.boot_cuts.specs.declared.answers.Class.{Class};
 ghost use Rattle.boot_cuts.specs.declared.answers.Class.TheVariants.{Former, Finished, Whole, Tail, Mixed, Bootsel};
 ghost use Rattle.boot_cuts.specs.Classes.{IsClass};
 ghost use Rattle.boot_cuts.specs.Contents.{cut_contents};
 ghost use Rattle.boot_tape.specs.Traces.{trace};
+ghost use Rattle.check_laws.specs.Hosts.{HostWrites, IsHosts};
+ghost use Rattle.check_laws.specs.SessionLaws.{Holds, KeepsTo};
 ghost use Rattle.cli_check.specs.Sessions.{is_one_session};
-ghost use Rattle.worked_flashes.specs.Choices.{small_slot};
+ghost use Rattle.worked_flashes.specs.Choices.{small_former, small_slot};
 ghost use Rattle.worked_flashes.specs.Flashes.{arm_slot, bare_slot, beside_small, data_page};
 ghost use Rattle.worked_flashes.specs.Writes.{longer_steps};
 ghost use Rattle.law_cuts.specs.Cases.{ArmsNoCut, IsGatedScript, IsOther, IsSweptScript, IsWholeOrNone};
@@ -40,6 +43,18 @@ pub fn a_script_that_is_swept()
 {
     a_cut_behind_the_image();
     a_cut_within_the_image();
+}
+
+/// It is a host's, and the host writes. Its steps keep to the slot, in which nothing starts before
+/// them, and leave the table.
+pub fn a_script_of_a_host()
+    ensures hosts { IsHosts (beside_small bare_slot) Arm small_script }
+    ensures writes { HostWrites (beside_small bare_slot) Arm small_script }
+    ensures starts { StartsIn (beside_small bare_slot) Arm small_former.image.window }
+    ensures keeps { KeepsTo (beside_small bare_slot) Arm longer_steps small_slot }
+    ensures holds { Holds (beside_small bare_slot) Arm longer_steps small_slot }
+{
+    a_cut_behind_the_image();
 }
 
 /// It arms no cut; a Cut event does.
