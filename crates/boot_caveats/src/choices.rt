@@ -4,13 +4,14 @@ ghost use Rattle.std.specs.Prelude.{◌≡◌, ◌+◌, ◌-◌, ◌<◌, ◌≤
 ghost use Rattle.std.specs.List.{list_any};
 ghost use Rattle.sector_pool.specs.Keeping.{KeepsOut};
 ghost use Rattle.sector_pool.specs.Pool.{HasFree};
+ghost use Rattle.image_check.specs.Digests.{Knows};
 ghost use Rattle.slot_choice.specs.Updates.{has_member_at};
 ghost use Rattle.boot_rules.specs.Picking.{IsInside};
 ghost use Rattle.boot_caveats.specs.ChoiceCaveats.{first_slot_image, first_tie, has_normal_image, has_second_image, is_slot_address, is_tie, lacks_image, lone_slot_images, moved_by, moved_part, other_cpu, second_slot_image, slot_images, started_window, tie_of, tied_in, update_moves, update_of_nothing, update_of_slot, updates_one};
 
 use boot_reasons::{TableInForce, TakenImage, UnitReason, UnitReport};
 use boot_rules::{Decision, Fall};
-use image_check::check;
+use image_check::{Digests, check_by};
 use pico_board::{Board, BootKind, Cpu, FLASH_BASE, FlashView, SMALLEST_SLOT, Window};
 use sector_pool::SectorPool;
 use slot_caveats::{Caveat, add, flash_from, has_executable};
@@ -51,16 +52,19 @@ pub(crate) fn started_window(decision: &Decision) -> Option<Window>
 pub(crate) fn has_normal_image<B: Board>(
     board: &B,
     pool: &mut SectorPool,
+    digests: &mut Digests,
     cpu: Cpu,
     window: Window,
 ) -> bool
     requires power { IsTrue (B.state board.now).powered }
     requires free { HasFree pool.old }
+    requires knows { Knows digests.old (B.state board.now).content }
     requires inside { IsInside (length (B.state board.now).content.flash) window }
     ensures exact { result ≡ has_normal_image (B.state board.now).content cpu window }
+    ensures knows { Knows digests.new (B.state board.now).content }
     ensures kept { KeepsOut pool.old pool.new }
 {
-    check(board, pool, window, cpu, false).is_ok()
+    check_by(board, pool, digests, window, cpu, false).is_ok()
 }
 
 /// Whether the loop of the flash from slot 1 on, of the smallest size, closes and has an executable
@@ -77,19 +81,22 @@ fn has_second_image<B: Board>(board: &B) -> bool
 fn first_slot_image<B: Board>(
     board: &B,
     pool: &mut SectorPool,
+    digests: &mut Digests,
     cpu: Cpu,
     decision: &Decision,
 ) -> Option<Caveat>
     requires power { IsTrue (B.state board.now).powered }
     requires free { HasFree pool.old }
+    requires knows { Knows digests.old (B.state board.now).content }
     ensures exact { result ≡ first_slot_image (B.state board.now).content cpu decision.now }
+    ensures knows { Knows digests.new (B.state board.now).content }
     ensures kept { KeepsOut pool.old pool.new }
 {
     let window = Window {
         start: 0,
         len: SMALLEST_SLOT,
     };
-    if lacks_image(decision) && has_normal_image(board, pool, cpu, window) {
+    if lacks_image(decision) && has_normal_image(board, pool, digests, cpu, window) {
         Some(Caveat::SlotImage(window))
     } else {
         None
@@ -100,12 +107,15 @@ fn first_slot_image<B: Board>(
 fn second_slot_image<B: Board>(
     board: &B,
     pool: &mut SectorPool,
+    digests: &mut Digests,
     cpu: Cpu,
     decision: &Decision,
 ) -> Option<Caveat>
     requires power { IsTrue (B.state board.now).powered }
     requires free { HasFree pool.old }
+    requires knows { Knows digests.old (B.state board.now).content }
     ensures exact { result ≡ second_slot_image (B.state board.now).content cpu decision.now }
+    ensures knows { Knows digests.new (B.state board.now).content }
     ensures kept { KeepsOut pool.old pool.new }
 {
     let window = Window {
@@ -113,7 +123,7 @@ fn second_slot_image<B: Board>(
         len: SMALLEST_SLOT,
     };
     if has_second_image(board)
-        || (lacks_image(decision) && has_normal_image(board, pool, cpu, window))
+        || (lacks_image(decision) && has_normal_image(board, pool, digests, cpu, window))
     {
         Some(Caveat::SlotImage(window))
     } else {
@@ -125,18 +135,21 @@ fn second_slot_image<B: Board>(
 fn add_lone_slots<B: Board>(
     board: &B,
     pool: &mut SectorPool,
+    digests: &mut Digests,
     cpu: Cpu,
     decision: &Decision,
     list: &mut Vec<Caveat>,
 ) -> Result<(), AllocError>
     requires power { IsTrue (B.state board.now).powered }
     requires free { HasFree pool.old }
+    requires knows { Knows digests.old (B.state board.now).content }
     ensures exact { OnOk result (list.new.items ≡ list.old.items
         ++ lone_slot_images (B.state board.now).content cpu decision.now) }
+    ensures knows { Knows digests.new (B.state board.now).content }
     ensures kept { KeepsOut pool.old pool.new }
 {
-    add(list, first_slot_image(board, pool, cpu, decision))?;
-    add(list, second_slot_image(board, pool, cpu, decision))
+    add(list, first_slot_image(board, pool, digests, cpu, decision))?;
+    add(list, second_slot_image(board, pool, digests, cpu, decision))
 }
 
 /// Adds the slots that may have an image, where there is no table and they are of the smallest
@@ -144,6 +157,7 @@ fn add_lone_slots<B: Board>(
 pub(crate) fn add_slot_images<B: Board>(
     board: &B,
     pool: &mut SectorPool,
+    digests: &mut Digests,
     cpu: Cpu,
     decision: &Decision,
     size: u32,
@@ -152,14 +166,16 @@ pub(crate) fn add_slot_images<B: Board>(
 ) -> Result<(), AllocError>
     requires power { IsTrue (B.state board.now).powered }
     requires free { HasFree pool.old }
+    requires knows { Knows digests.old (B.state board.now).content }
     ensures exact { OnOk result (list.new.items ≡ list.old.items
         ++ slot_images (B.state board.now).content cpu decision.now size table) }
+    ensures knows { Knows digests.new (B.state board.now).content }
     ensures kept { KeepsOut pool.old pool.new }
 {
     if table.is_some() || size != SMALLEST_SLOT {
         return Ok(());
     }
-    add_lone_slots(board, pool, cpu, decision, list)
+    add_lone_slots(board, pool, digests, cpu, decision, list)
 }
 
 /// Whether an image is taken because of a tie.

@@ -3,6 +3,7 @@
 ghost use Rattle.std.specs.Prelude.{◌≡◌, ◌++◌, IfOk, IsTrue, OnOk};
 ghost use Rattle.sector_pool.specs.Keeping.{KeepsOut};
 ghost use Rattle.sector_pool.specs.Pool.{HasFree};
+ghost use Rattle.image_check.specs.Digests.{Knows};
 ghost use Rattle.boot_reasons.specs.Reasons.{reasons_in};
 ghost use Rattle.boot_caveats.specs.Caveats.{board_caveats, caveats_by, caveats_in, choice_caveats, last_caveats, window_caveats};
 ghost use Rattle.boot_caveats.specs.Rules.{AreCaveats};
@@ -14,8 +15,9 @@ use crate::parts::{add_ignore_flags, add_no_reads};
 use crate::processors::add_other_processors;
 use crate::starts::{add_rows, table_in_image};
 use crate::unread::unread_start;
-use boot_reasons::{Reasons, gather, taken_table};
+use boot_reasons::{Reasons, gather_by, taken_table};
 use boot_rules::boot_units_in;
+use image_check::Digests;
 use pico_board::{Board, BootKind, Cpu};
 use sector_pool::SectorPool;
 use slot_caveats::{
@@ -48,6 +50,7 @@ fn add_board<B: Board>(
 fn add_choice<B: Board>(
     board: &B,
     pool: &mut SectorPool,
+    digests: &mut Digests,
     reasons: &Reasons,
     cpu: Cpu,
     kind: BootKind,
@@ -55,17 +58,20 @@ fn add_choice<B: Board>(
 ) -> Result<(), AllocError>
     requires power { IsTrue (B.state board.now).powered }
     requires free { HasFree pool.old }
+    requires knows { Knows digests.old (B.state board.now).content }
     requires reasons { reasons.now ≡ reasons_in (B.state board.now).content cpu kind }
     ensures exact { OnOk result (list.new.items ≡ list.old.items
         ++ choice_caveats (B.state board.now).content cpu kind reasons.now) }
+    ensures knows { Knows digests.new (B.state board.now).content }
     ensures kept { KeepsOut pool.old pool.new }
 {
     let decision = &reasons.decision;
     let looks = reasons.looks.as_slice();
-    add_other_processors(board, pool, cpu, kind, decision, looks, list)?;
+    add_other_processors(board, pool, digests, cpu, kind, decision, looks, list)?;
     add_slot_images(
         board,
         pool,
+        digests,
         cpu,
         decision,
         reasons.size,
@@ -85,6 +91,7 @@ fn add_windows<B: Board>(
     alloc: Global,
     board: &B,
     pool: &mut SectorPool,
+    digests: &mut Digests,
     reasons: &Reasons,
     cpu: Cpu,
     kind: BootKind,
@@ -92,18 +99,20 @@ fn add_windows<B: Board>(
 ) -> Result<(), AllocError>
     requires power { IsTrue (B.state board.now).powered }
     requires free { HasFree pool.old }
+    requires knows { Knows digests.old (B.state board.now).content }
     requires reasons { reasons.now ≡ reasons_in (B.state board.now).content cpu kind }
     ensures exact { OnOk result (list.new.items ≡ list.old.items
         ++ window_caveats (B.state board.now).content cpu kind reasons.now) }
+    ensures knows { Knows digests.new (B.state board.now).content }
     ensures kept { KeepsOut pool.old pool.new }
 {
     let looks = reasons.looks.as_slice();
     add_late_firsts(board, &reasons.decision, reasons.size, looks, list)?;
     add_item_orders(board, cpu, looks, list)?;
-    let unread = unread_start(alloc, board, pool, looks, cpu, kind)?;
+    let unread = unread_start(alloc, board, pool, digests, looks, cpu, kind)?;
     add_may_starts(unread, looks, list)?;
     let table = taken_table(reasons.table, &reasons.first, &reasons.second);
-    add_owned_images(board, pool, cpu, table, list)?;
+    add_owned_images(board, pool, digests, cpu, table, list)?;
     add_unread(table, list)?;
     add(list, table_tie(&reasons.first, &reasons.second))
 }
@@ -142,6 +151,34 @@ fn add_last<B: Board>(
     )
 }
 
+/// The caveats of an answer whose reasons are known, with what is remembered of digests: a digest
+/// that is remembered is not made again.
+pub fn caveats_with<B: Board>(
+    alloc: Global,
+    board: &B,
+    pool: &mut SectorPool,
+    digests: &mut Digests,
+    cpu: Cpu,
+    kind: BootKind,
+    reasons: &Reasons,
+) -> Result<Vec<Caveat>, AllocError>
+    requires power { IsTrue (B.state board.now).powered }
+    requires free { HasFree pool.old }
+    requires reasons { reasons.now ≡ reasons_in (B.state board.now).content cpu kind }
+    requires knows { Knows digests.old (B.state board.now).content }
+    ensures exact { IfOk result
+        (λ list. list.items ≡ caveats_in (B.state board.now).content cpu kind) }
+    ensures knows { Knows digests.new (B.state board.now).content }
+    ensures kept { KeepsOut pool.old pool.new }
+{
+    let mut list = Vec::new(alloc);
+    add_board(board, reasons, cpu, kind, &mut list)?;
+    add_choice(board, pool, digests, reasons, cpu, kind, &mut list)?;
+    add_windows(alloc, board, pool, digests, reasons, cpu, kind, &mut list)?;
+    add_last(board, reasons, cpu, kind, &mut list)?;
+    Ok(list)
+}
+
 /// The caveats of an answer whose reasons are known.
 pub fn caveats_by<B: Board>(
     alloc: Global,
@@ -158,12 +195,7 @@ pub fn caveats_by<B: Board>(
         (λ list. list.items ≡ caveats_in (B.state board.now).content cpu kind) }
     ensures kept { KeepsOut pool.old pool.new }
 {
-    let mut list = Vec::new(alloc);
-    add_board(board, reasons, cpu, kind, &mut list)?;
-    add_choice(board, pool, reasons, cpu, kind, &mut list)?;
-    add_windows(alloc, board, pool, reasons, cpu, kind, &mut list)?;
-    add_last(board, reasons, cpu, kind, &mut list)?;
-    Ok(list)
+    caveats_with(alloc, board, pool, &mut Digests::none(), cpu, kind, reasons)
 }
 
 /// The caveats of the answer of a boot: each point of this very answer at which the chip may
@@ -184,6 +216,7 @@ pub fn caveats_of<B: Board>(
         (λ list. list.items ≡ caveats_in (B.state board.now).content cpu kind) }
     ensures pool { KeepsOut pool.old pool.new }
 {
-    let reasons = gather(board, pool, cpu, kind);
-    caveats_by(alloc, board, pool, cpu, kind, &reasons)
+    let mut digests = Digests::none();
+    let reasons = gather_by(board, pool, &mut digests, cpu, kind);
+    caveats_with(alloc, board, pool, &mut digests, cpu, kind, &reasons)
 }

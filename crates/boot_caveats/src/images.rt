@@ -4,6 +4,7 @@ ghost use Rattle.std.specs.Prelude.{◌≡◌, ◌+◌, ◌*◌, ◌/◌, ◌<�
 ghost use Rattle.std.specs.List.{filter_map, flat_map, list_any, range_with_len};
 ghost use Rattle.sector_pool.specs.Keeping.{KeepsOut};
 ghost use Rattle.sector_pool.specs.Pool.{HasFree};
+ghost use Rattle.image_check.specs.Digests.{Knows};
 ghost use Rattle.boot_rules.specs.Picking.{AreInside, IsInside};
 ghost use Rattle.boot_caveats.specs.Reads.{AreLooksInside, ArePartsInside};
 ghost use Rattle.boot_caveats.specs.ImageCaveats.{begins_otherwise, ends_late, first_places, is_at, is_doubtful, is_doubtful_item, is_doubtful_map, is_window, item_order, late_first, late_firsts, look_may_start, looked_windows, may_start, owned_image, owned_images, read_windows, reads_blocks, second_may_start, unit_windows};
@@ -16,7 +17,7 @@ use block_codec::Block;
 use block_codec::kinds::{HASH_DEF, HASH_VALUE, IMAGE_TYPE, VERSION, kind_of};
 use boot_reasons::UnitReport;
 use boot_rules::{Decision, Fall, Started};
-use image_check::Why;
+use image_check::{Digests, Why};
 use image_def::DefFault;
 use load_map::MapFault;
 use part_table::{Partition, Table};
@@ -298,19 +299,22 @@ pub(crate) fn add_may_starts(
 fn owned_image<B: Board>(
     board: &B,
     pool: &mut SectorPool,
+    digests: &mut Digests,
     cpu: Cpu,
     parts: &[Partition],
     i: u32,
 ) -> Option<Caveat>
     requires power { IsTrue (B.state board.now).powered }
     requires free { HasFree pool.old }
+    requires knows { Knows digests.old (B.state board.now).content }
     requires part { i < length parts.now }
     requires inside { ArePartsInside (length (B.state board.now).content.flash) parts.now }
     ensures exact { result ≡ owned_image (B.state board.now).content cpu parts.now i }
+    ensures knows { Knows digests.new (B.state board.now).content }
     ensures kept { KeepsOut pool.old pool.new }
 {
     let part = &parts[i as usize];
-    if part.is_owned() && has_normal_image(board, pool, cpu, part.window()) {
+    if part.is_owned() && has_normal_image(board, pool, digests, cpu, part.window()) {
         Some(Caveat::OwnedImage(i))
     } else {
         None
@@ -321,21 +325,24 @@ fn owned_image<B: Board>(
 fn add_owned_parts<B: Board>(
     board: &B,
     pool: &mut SectorPool,
+    digests: &mut Digests,
     cpu: Cpu,
     parts: &[Partition],
     list: &mut Vec<Caveat>,
 ) -> Result<(), AllocError>
     requires power { IsTrue (B.state board.now).powered }
     requires free { HasFree pool.old }
+    requires knows { Knows digests.old (B.state board.now).content }
     requires few { length parts.now ≤ 15 }
     requires inside { ArePartsInside (length (B.state board.now).content.flash) parts.now }
     ensures exact { OnOk result (list.new.items ≡ list.old.items
         ++ filter_map (owned_image (B.state board.now).content cpu parts.now)
         (range_with_len 0 (length parts.now))) }
+    ensures knows { Knows digests.new (B.state board.now).content }
     ensures kept { KeepsOut pool.old pool.new }
 {
     for i in 0..parts.len() as u32 {
-        add(list, owned_image(board, pool, cpu, parts, i))?;
+        add(list, owned_image(board, pool, digests, cpu, parts, i))?;
     }
     Ok(())
 }
@@ -344,20 +351,23 @@ fn add_owned_parts<B: Board>(
 pub(crate) fn add_owned_images<B: Board>(
     board: &B,
     pool: &mut SectorPool,
+    digests: &mut Digests,
     cpu: Cpu,
     table: Option<&Table>,
     list: &mut Vec<Caveat>,
 ) -> Result<(), AllocError>
     requires power { IsTrue (B.state board.now).powered }
     requires free { HasFree pool.old }
+    requires knows { Knows digests.old (B.state board.now).content }
     requires inside { IfSome (option_map (λ t. t.now) table)
         (λ t. ArePartsInside (length (B.state board.now).content.flash) t.parts.items) }
     ensures exact { OnOk result (list.new.items ≡ list.old.items
         ++ owned_images (B.state board.now).content cpu (option_map (λ t. t.now) table.entry)) }
+    ensures knows { Knows digests.new (B.state board.now).content }
     ensures kept { KeepsOut pool.old pool.new }
 {
     match table {
-        Some(table) => add_owned_parts(board, pool, cpu, table.parts.as_slice(), list),
+        Some(table) => add_owned_parts(board, pool, digests, cpu, table.parts.as_slice(), list),
         None => Ok(()),
     }
 }

@@ -25,5 +25,5 @@ mod reading;
 mod starts;
 mod unread;
 
-pub use gathering::{caveats_by, caveats_of};
+pub use gathering::{caveats_by, caveats_of, caveats_with};
 pub use slot_caveats::Caveat;

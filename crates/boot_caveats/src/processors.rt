@@ -4,6 +4,7 @@ ghost use Rattle.std.specs.Prelude.{◌≡◌, ◌+◌, ◌*◌, ◌<◌, ◌≤
 ghost use Rattle.std.specs.List.{filter_map};
 ghost use Rattle.sector_pool.specs.Keeping.{KeepsOut};
 ghost use Rattle.sector_pool.specs.Pool.{HasFree};
+ghost use Rattle.image_check.specs.Digests.{Knows};
 ghost use Rattle.boot_rules.specs.Chosen.{is_member};
 ghost use Rattle.boot_rules.specs.Picking.{AreInside, IsInside};
 ghost use Rattle.slot_caveats.specs.declared.caveat.Caveat.TheVariants.{OtherProcessor};
@@ -14,8 +15,8 @@ use crate::choices::{lacks_image, other_cpu, started_window};
 use crate::images::has_window;
 use arrayvec::ArrayVec;
 use boot_reasons::UnitReport;
-use boot_rules::{Decision, Started, boot_units_in, decide, order_of};
-use image_check::{Why, check};
+use boot_rules::{Decision, Started, boot_units_in, decide_by, order_of};
+use image_check::{Digests, Why, check_by};
 use pico_board::{Board, BootKind, Cpu, Window};
 use sector_pool::SectorPool;
 use slot_caveats::{Caveat, add};
@@ -45,6 +46,7 @@ fn updated_in<B: Board>(board: &B, cpu: Cpu, kind: BootKind) -> Option<Member>
 fn other_window<B: Board>(
     board: &B,
     pool: &mut SectorPool,
+    digests: &mut Digests,
     cpu: Cpu,
     window: Window,
     image: &Result<Started, Why>,
@@ -52,12 +54,14 @@ fn other_window<B: Board>(
 ) -> Option<Window>
     requires power { IsTrue (B.state board.now).powered }
     requires free { HasFree pool.old }
+    requires knows { Knows digests.old (B.state board.now).content }
     requires inside { IsInside (length (B.state board.now).content.flash) window }
     ensures exact { result ≡ other_window (B.state board.now).content cpu
         (record { window = window; image = image.now; trial = trial_ok }) }
+    ensures knows { Knows digests.new (B.state board.now).content }
     ensures kept { KeepsOut pool.old pool.new }
 {
-    if image.is_err() && check(board, pool, window, other_cpu(cpu), trial_ok).is_ok() {
+    if image.is_err() && check_by(board, pool, digests, window, other_cpu(cpu), trial_ok).is_ok() {
         Some(window)
     } else {
         None
@@ -68,6 +72,7 @@ fn other_window<B: Board>(
 fn second_other<B: Board>(
     board: &B,
     pool: &mut SectorPool,
+    digests: &mut Digests,
     cpu: Cpu,
     window: Option<Window>,
     image: &Option<Result<Started, Why>>,
@@ -75,14 +80,18 @@ fn second_other<B: Board>(
 ) -> Option<Window>
     requires power { IsTrue (B.state board.now).powered }
     requires free { HasFree pool.old }
+    requires knows { Knows digests.old (B.state board.now).content }
     requires inside { IfSome window (IsInside (length (B.state board.now).content.flash)) }
     ensures exact { option_to_list result
         ≡ filter_map (other_window (B.state board.now).content cpu)
         (second_looked trial_ok window image.now) }
+    ensures knows { Knows digests.new (B.state board.now).content }
     ensures kept { KeepsOut pool.old pool.new }
 {
     match (window, image) {
-        (Some(window), Some(image)) => other_window(board, pool, cpu, window, image, trial_ok),
+        (Some(window), Some(image)) => other_window(
+            board, pool, digests, cpu, window, image, trial_ok,
+        ),
         (Some(_), None) | (None, _) => None,
     }
 }
@@ -102,6 +111,7 @@ fn push_some(windows: &mut ArrayVec<Window, 30>, window: Option<Window>)
 fn push_others<B: Board>(
     board: &B,
     pool: &mut SectorPool,
+    digests: &mut Digests,
     cpu: Cpu,
     look: &UnitReport,
     updated: Option<Member>,
@@ -109,18 +119,20 @@ fn push_others<B: Board>(
 )
     requires power { IsTrue (B.state board.now).powered }
     requires free { HasFree pool.old }
+    requires knows { Knows digests.old (B.state board.now).content }
     requires inside { AreInside (length (B.state board.now).content.flash) look.now.unit }
     requires room { length windows.old.items ≤ 28 }
     ensures value { windows.new.items ≡ windows.old.items
         ++ filter_map (other_window (B.state board.now).content cpu)
         (members_of look.now updated) }
     ensures most { length windows.new.items ≤ length windows.old.items + 2 }
+    ensures knows { Knows digests.new (B.state board.now).content }
     ensures kept { KeepsOut pool.old pool.new }
 {
     let first = is_member(updated, Member::A);
     let second = is_member(updated, Member::B);
-    let a = other_window(board, pool, cpu, look.unit.a, &look.first, first);
-    let b = second_other(board, pool, cpu, look.unit.b, &look.second, second);
+    let a = other_window(board, pool, digests, cpu, look.unit.a, &look.first, first);
+    let b = second_other(board, pool, digests, cpu, look.unit.b, &look.second, second);
     push_some(windows, a);
     push_some(windows, b);
 }
@@ -130,22 +142,25 @@ fn push_others<B: Board>(
 fn other_windows<B: Board>(
     board: &B,
     pool: &mut SectorPool,
+    digests: &mut Digests,
     cpu: Cpu,
     looks: &[UnitReport],
     updated: Option<Member>,
 ) -> ArrayVec<Window, 30>
     requires power { IsTrue (B.state board.now).powered }
     requires free { HasFree pool.old }
+    requires knows { Knows digests.old (B.state board.now).content }
     requires few { length looks.now ≤ 15 }
     requires inside { AreLooksInside (length (B.state board.now).content.flash) looks.now }
     ensures value { result.items ≡ other_windows (B.state board.now).content cpu
         (looked_members looks.now updated) }
+    ensures knows { Knows digests.new (B.state board.now).content }
     ensures kept { KeepsOut pool.old pool.new }
 {
     let mut windows = ArrayVec::new();
     let mut member = updated;
     for look in looks {
-        push_others(board, pool, cpu, look, member, &mut windows);
+        push_others(board, pool, digests, cpu, look, member, &mut windows);
         member = None;
     }
     windows
@@ -167,6 +182,7 @@ fn other_among(windows: &[Window], window: Option<Window>) -> Option<Caveat>
 fn other_start<B: Board>(
     board: &B,
     pool: &mut SectorPool,
+    digests: &mut Digests,
     cpu: Cpu,
     kind: BootKind,
     decision: &Decision,
@@ -174,14 +190,16 @@ fn other_start<B: Board>(
 ) -> Option<Caveat>
     requires power { IsTrue (B.state board.now).powered }
     requires free { HasFree pool.old }
+    requires knows { Knows digests.old (B.state board.now).content }
     ensures exact { result
         ≡ other_start (B.state board.now).content cpu kind decision.now windows.now }
+    ensures knows { Knows digests.new (B.state board.now).content }
     ensures kept { KeepsOut pool.old pool.new }
 {
     if !lacks_image(decision) {
         return None;
     }
-    let other = decide(board, pool, other_cpu(cpu), kind);
+    let other = decide_by(board, pool, digests, other_cpu(cpu), kind);
     other_among(windows, started_window(&other))
 }
 
@@ -201,6 +219,7 @@ fn add_windows(windows: &[Window], list: &mut Vec<Caveat>) -> Result<(), AllocEr
 pub(crate) fn add_other_processors<B: Board>(
     board: &B,
     pool: &mut SectorPool,
+    digests: &mut Digests,
     cpu: Cpu,
     kind: BootKind,
     decision: &Decision,
@@ -209,16 +228,21 @@ pub(crate) fn add_other_processors<B: Board>(
 ) -> Result<(), AllocError>
     requires power { IsTrue (B.state board.now).powered }
     requires free { HasFree pool.old }
+    requires knows { Knows digests.old (B.state board.now).content }
     requires few { length looks.now ≤ 15 }
     requires inside { AreLooksInside (length (B.state board.now).content.flash) looks.now }
     ensures exact { OnOk result (list.new.items ≡ list.old.items
         ++ other_processors (B.state board.now).content cpu kind decision.now
         (looked_members looks.now (updated_in (B.state board.now).content cpu kind))) }
+    ensures knows { Knows digests.new (B.state board.now).content }
     ensures kept { KeepsOut pool.old pool.new }
 {
     let updated = updated_in(board, cpu, kind);
-    let windows = other_windows(board, pool, cpu, looks, updated);
+    let windows = other_windows(board, pool, digests, cpu, looks, updated);
     let windows = windows.as_slice();
     add_windows(windows, list)?;
-    add(list, other_start(board, pool, cpu, kind, decision, windows))
+    add(
+        list,
+        other_start(board, pool, digests, cpu, kind, decision, windows),
+    )
 }

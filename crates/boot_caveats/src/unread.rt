@@ -5,13 +5,14 @@ ghost use Rattle.std.specs.List.{flat_map, list_any};
 ghost use Rattle.pico_board.specs.MemBoard.{state_of};
 ghost use Rattle.sector_pool.specs.Keeping.{KeepsOut};
 ghost use Rattle.sector_pool.specs.Pool.{HasFree};
+ghost use Rattle.image_check.specs.Digests.{Knows};
 ghost use Rattle.boot_caveats.specs.ImageCaveats.{look_may_start};
 ghost use Rattle.boot_caveats.specs.Unread.{fails_rollback, has_rollback_fault, is_rollback, unread_content, unread_row, unread_rows, unread_window};
 
 use crate::choices::started_window;
 use boot_reasons::UnitReport;
-use boot_rules::{Started, decide};
-use image_check::Why;
+use boot_rules::{Started, decide_by};
+use image_check::{Digests, Why};
 use otp_roll::{BOOT_FLAGS, SLOT_SIZE_ROW};
 use pico_board::{Board, BootKind, Cpu, MemBoard, Window};
 use sector_pool::SectorPool;
@@ -124,21 +125,24 @@ pub(crate) fn unread_start<B: Board>(
     alloc: Global,
     board: &B,
     pool: &mut SectorPool,
+    digests: &mut Digests,
     looks: &[UnitReport],
     cpu: Cpu,
     kind: BootKind,
 ) -> Result<Option<Window>, AllocError>
     requires power { IsTrue (B.state board.now).powered }
     requires free { HasFree pool.old }
+    requires knows { Knows digests.old (B.state board.now).content }
     ensures exact { IfOk result (λ unread. flat_map (look_may_start unread) looks.now
         ≡ flat_map (look_may_start (unread_window (B.state board.now).content cpu kind))
         looks.now) }
+    ensures knows { Knows digests.new (B.state board.now).content }
     ensures kept { KeepsOut pool.old pool.new }
 {
     if !fails_any(looks) {
         return Ok(None);
     }
     let copy = unread_board(alloc, board)?;
-    let decision = decide(&copy, pool, cpu, kind);
+    let decision = decide_by(&copy, pool, digests, cpu, kind);
     Ok(started_window(&decision))
 }

@@ -5,6 +5,7 @@ ghost use Rattle.otp_roll.specs.Flags.{slot_size};
 ghost use Rattle.part_table.specs.Sound.{IsSoundTable};
 ghost use Rattle.sector_pool.specs.Keeping.{KeepsOut};
 ghost use Rattle.sector_pool.specs.Pool.{HasFree};
+ghost use Rattle.image_check.specs.Digests.{Knows};
 ghost use Rattle.slot_choice.specs.Units.{units};
 ghost use Rattle.boot_rules.specs.Choosing.{order_of};
 ghost use Rattle.boot_rules.specs.Tables.{table_of_content};
@@ -18,7 +19,7 @@ use crate::looks::UnitReport;
 use crate::reasons::Reasons;
 use crate::tables::{table_in_force, taken_table};
 use arrayvec::ArrayVec;
-use boot_rules::{Decision, Fall, boot_units_by, decision_of, order_of, slot_answer};
+use boot_rules::{Decision, Digests, Fall, boot_units_by, decision_of, order_of, slot_answer};
 use otp_roll::{flash_off, required, slot_size};
 use part_table::Table;
 use pico_board::{Board, BootKind, Cpu};
@@ -46,22 +47,25 @@ struct UnitReports {
 fn reports_in_order<B: Board>(
     board: &B,
     pool: &mut SectorPool,
+    digests: &mut Digests,
     units: ArrayVec<SlotUnit, 15>,
     cpu: Cpu,
     kind: BootKind,
 ) -> UnitReports
     requires power { IsTrue (B.state board.now).powered }
     requires free { HasFree pool.old }
+    requires knows { Knows digests.old (B.state board.now).content }
     requires inside { All (AreInside (length (B.state board.now).content.flash)) units.items }
     ensures looks { result.looks.items ≡ reports_of (results_in (B.state board.now).content cpu)
         (order_of kind units.items).units (order_of kind units.items).updated }
     ensures unreached { result.unreached
         ≡ length (order_of kind units.items).units - length result.looks.items }
+    ensures knows { Knows digests.new (B.state board.now).content }
     ensures kept { KeepsOut pool.old pool.new }
 {
     let mut ordered = units;
     let updated = order_of(&mut ordered, kind);
-    let looks = reports_on(board, pool, ordered.as_slice(), updated, cpu);
+    let looks = reports_on(board, pool, digests, ordered.as_slice(), updated, cpu);
     let unreached = (ordered.len() - looks.len()) as u32;
     UnitReports { looks, unreached }
 }
@@ -70,16 +74,19 @@ fn reports_in_order<B: Board>(
 fn reported_in<B: Board>(
     board: &B,
     pool: &mut SectorPool,
+    digests: &mut Digests,
     table: Option<&Table>,
     cpu: Cpu,
     kind: BootKind,
 ) -> UnitReports
     requires power { IsTrue (B.state board.now).powered }
     requires free { HasFree pool.old }
+    requires knows { Knows digests.old (B.state board.now).content }
     requires table { option_map (λ t. t.now) table
         ≡ table_of_content (B.state board.now).content }
     ensures looks { result.looks.items ≡ reports_in (B.state board.now).content cpu kind }
     ensures unreached { result.unreached ≡ unreached_in (B.state board.now).content cpu kind }
+    ensures knows { Knows digests.new (B.state board.now).content }
     ensures kept { KeepsOut pool.old pool.new }
 {
     if !does_report(kind, flash_off(board)) {
@@ -89,7 +96,7 @@ fn reported_in<B: Board>(
         };
     }
     let units = boot_units_by(board, table, cpu);
-    reports_in_order(board, pool, units, cpu, kind)
+    reports_in_order(board, pool, digests, units, cpu, kind)
 }
 
 /// The decision by the choice of the first report with an image that is taken.
@@ -109,16 +116,31 @@ fn reported_decision(kind: BootKind, off: bool, choice: Option<Choice>) -> Decis
 }
 
 /// The reasons of a boot by what its slots have.
-fn reasons_of<B: Board>(board: &B, pool: &mut SectorPool, cpu: Cpu, kind: BootKind) -> Reasons
+fn reasons_of<B: Board>(
+    board: &B,
+    pool: &mut SectorPool,
+    digests: &mut Digests,
+    cpu: Cpu,
+    kind: BootKind,
+) -> Reasons
     requires power { IsTrue (B.state board.now).powered }
     requires free { HasFree pool.old }
+    requires knows { Knows digests.old (B.state board.now).content }
     ensures exact { result ≡ reasons_in (B.state board.now).content cpu kind }
+    ensures knows { Knows digests.new (B.state board.now).content }
     ensures kept { KeepsOut pool.old pool.new }
 {
     let first = slot_answer(board, 0);
     let second = slot_answer(board, 1);
     let table = table_in_force(&first, &second);
-    let looked = reported_in(board, pool, taken_table(table, &first, &second), cpu, kind);
+    let looked = reported_in(
+        board,
+        pool,
+        digests,
+        taken_table(table, &first, &second),
+        cpu,
+        kind,
+    );
     let off = flash_off(board);
     Reasons {
         decision: reported_decision(kind, off, first_choice(looked.looks.as_slice())),
@@ -133,6 +155,26 @@ fn reasons_of<B: Board>(board: &B, pool: &mut SectorPool, cpu: Cpu, kind: BootKi
     }
 }
 
+/// Why a boot decides as it does, as `gather` tells it, with what is remembered of digests. A digest
+/// that is remembered is not made again.
+pub fn gather_by<B: Board>(
+    board: &B,
+    pool: &mut SectorPool,
+    digests: &mut Digests,
+    cpu: Cpu,
+    kind: BootKind,
+) -> Reasons
+    requires power { IsTrue (B.state board.now).powered }
+    requires lease { HasFree pool.old }
+    requires knows { Knows digests.old (B.state board.now).content }
+    ensures explained { IsExplained (B.state board.now).content cpu kind result }
+    ensures function { result ≡ reasons_in (B.state board.now).content cpu kind }
+    ensures knows { Knows digests.new (B.state board.now).content }
+    ensures pool { KeepsOut pool.old pool.new }
+{
+    reasons_of(board, pool, digests, cpu, kind)
+}
+
 /// Why a boot decides as it does. Each slot is read once, and each member of a unit is judged
 /// once. The decision is that of the first unit that takes an image, and nothing is judged twice
 /// for it. It takes no memory, and the pool keeps what is out. (RP2350 Datasheet, chapter 5,
@@ -144,5 +186,5 @@ pub fn gather<B: Board>(board: &B, pool: &mut SectorPool, cpu: Cpu, kind: BootKi
     ensures function { result ≡ reasons_in (B.state board.now).content cpu kind }
     ensures pool { KeepsOut pool.old pool.new }
 {
-    reasons_of(board, pool, cpu, kind)
+    gather_by(board, pool, &mut Digests::none(), cpu, kind)
 }

@@ -18,7 +18,7 @@ mod slots;
 mod tables;
 
 pub use boot_rules::{SlotFault, slot_answer};
-pub use gathering::gather;
+pub use gathering::{gather, gather_by};
 pub use looks::{TakenImage, UnitReason, UnitReport};
 pub use reasons::Reasons;
 pub use slots::{TableInForce, TableReason};

@@ -4,6 +4,7 @@ ghost use Rattle.std.specs.Prelude.{◌≡◌, ◌≤◌, All, IfSome, IsTrue, N
 ghost use Rattle.std.specs.Result.{result_ok};
 ghost use Rattle.sector_pool.specs.Keeping.{KeepsOut};
 ghost use Rattle.sector_pool.specs.Pool.{HasFree};
+ghost use Rattle.image_check.specs.Digests.{Knows};
 ghost use Rattle.boot_rules.specs.Chosen.{is_member};
 ghost use Rattle.boot_rules.specs.Picking.{AreInside, IsInside};
 ghost use Rattle.boot_reasons.specs.Looks.{better_image, second_counted, first_choice, is_update, report_on, reported_choice, reports_of, second_image, reported_image, taken_image, taken_of};
@@ -13,7 +14,7 @@ use crate::looks::{TakenImage, UnitReason, UnitReport};
 use arrayvec::ArrayVec;
 use block_codec::copy_rows;
 use boot_rules::choice_of;
-use image_check::{Started, Why, check};
+use image_check::{Digests, Started, Why, check_by};
 use pico_board::{Board, Cpu, Window};
 use sector_pool::SectorPool;
 use slot_choice::{Choice, Member, SlotUnit, is_below};
@@ -92,19 +93,22 @@ fn taken_of(
 fn second_image<B: Board>(
     board: &B,
     pool: &mut SectorPool,
+    digests: &mut Digests,
     window: Option<Window>,
     cpu: Cpu,
     trial_ok: bool,
 ) -> Option<Result<Started, Why>>
     requires power { IsTrue (B.state board.now).powered }
     requires free { HasFree pool.old }
+    requires knows { Knows digests.old (B.state board.now).content }
     requires inside { IfSome window (IsInside (length (B.state board.now).content.flash)) }
     ensures exact { result ≡ option_map
         (λ w. results_in (B.state board.now).content cpu w trial_ok) window }
+    ensures knows { Knows digests.new (B.state board.now).content }
     ensures kept { KeepsOut pool.old pool.new }
 {
     match window {
-        Some(window) => Some(check(board, pool, window, cpu, trial_ok)),
+        Some(window) => Some(check_by(board, pool, digests, window, cpu, trial_ok)),
         None => None,
     }
 }
@@ -134,19 +138,36 @@ fn counted_first(image: &Result<Started, Why>) -> Option<&Started>
 fn report_on<B: Board>(
     board: &B,
     pool: &mut SectorPool,
+    digests: &mut Digests,
     unit: &SlotUnit,
     updated: Option<Member>,
     cpu: Cpu,
 ) -> UnitReport
     requires power { IsTrue (B.state board.now).powered }
     requires free { HasFree pool.old }
+    requires knows { Knows digests.old (B.state board.now).content }
     requires inside { AreInside (length (B.state board.now).content.flash) unit.now }
     ensures exact { result
         ≡ report_on (results_in (B.state board.now).content cpu) unit.now updated }
+    ensures knows { Knows digests.new (B.state board.now).content }
     ensures kept { KeepsOut pool.old pool.new }
 {
-    let first = check(board, pool, unit.a, cpu, is_member(updated, Member::A));
-    let second = second_image(board, pool, unit.b, cpu, is_member(updated, Member::B));
+    let first = check_by(
+        board,
+        pool,
+        digests,
+        unit.a,
+        cpu,
+        is_member(updated, Member::A),
+    );
+    let second = second_image(
+        board,
+        pool,
+        digests,
+        unit.b,
+        cpu,
+        is_member(updated, Member::B),
+    );
     let taken = taken_of(updated, counted_first(&first), second_counted(&second));
     UnitReport {
         unit: *unit,
@@ -160,23 +181,26 @@ fn report_on<B: Board>(
 pub(crate) fn reports_on<B: Board>(
     board: &B,
     pool: &mut SectorPool,
+    digests: &mut Digests,
     units: &[SlotUnit],
     updated: Option<Member>,
     cpu: Cpu,
 ) -> ArrayVec<UnitReport, 15>
     requires power { IsTrue (B.state board.now).powered }
     requires free { HasFree pool.old }
+    requires knows { Knows digests.old (B.state board.now).content }
     requires few { length units.now ≤ 15 }
     requires inside { All (AreInside (length (B.state board.now).content.flash)) units.now }
     ensures exact { result.items
         ≡ reports_of (results_in (B.state board.now).content cpu) units.now updated }
     ensures some { length result.items ≤ length units.now }
+    ensures knows { Knows digests.new (B.state board.now).content }
     ensures kept { KeepsOut pool.old pool.new }
 {
     let mut looks = ArrayVec::new();
     let mut member = updated;
     for unit in units {
-        let look = report_on(board, pool, unit, member, cpu);
+        let look = report_on(board, pool, digests, unit, member, cpu);
         let takes = look.taken.is_some();
         looks.push(look);
         if takes {

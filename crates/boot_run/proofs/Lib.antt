@@ -1,3 +1,4 @@
+mod AskedLemmas
 mod RunLemmas
 mod RuleLemmas
 mod VerdictLemmas

@@ -1,5 +1,5 @@
 -- The outcome of each command is right by the rules, and no other is.
-use Rattle.std.proofs.Common.{◌≡◌, ◌↔◌, ℕ, ◌==◌, Bool, true, false, cond, List, [], ◌∷◌, length, Option, Some, None, refl, sym, ◌∙◌, ap, subst, Result, Ok, Err}
+use Rattle.std.proofs.Common.{◌≡◌, ◌↔◌, ℕ, ◌==◌, Bool, true, false, cond, List, [], ◌∷◌, length, Option, Some, None, refl, sym, ◌∙◌, ap, subst, Result, Ok, Err, arith}
 use Rattle.std.specs.Prelude.{⊤, nat_lt}
 use Rattle.pico_board.specs.declared.boot.Cpu.{Cpu}
 use Rattle.pico_board.specs.declared.boot.BootKind.{BootKind}
@@ -30,7 +30,8 @@ use Rattle.cli_inputs.proofs.WorkLemmas.{work-obeys, work-only, work-refused, ne
 use Rattle.cli_boot.specs.Rules.{decided_status}
 use Rattle.cli_boot.proofs.BoardWorkLemmas.{boot-works, info-works, data-works}
 use Rattle.cli_explain.proofs.ReasonWorkLemmas.{explain-works}
-use Rattle.cli_check.proofs.CheckRuleLemmas.{check-works}
+use Rattle.cli_check.proofs.CheckRuleLemmas.{asked-works, check-works}
+use Rattle.check_require.specs.Requires.{default_require}
 use Rattle.cli_cuts.proofs.CutsRuleLemmas.{cuts-works}
 use Rattle.cli_caveats.proofs.CaveatWorkLemmas.{caveats-works}
 use Rattle.cli_map.proofs.MapWorkLemmas.{map-works}
@@ -63,6 +64,12 @@ use Rattle.cli_stage.specs.StageWorks.{file_work, judged_work as stage_judged, s
 -- a told text is right
 told-works : (text : List ℕ) → IsByRules ⊤ (Answers false text []) (λ name fault. ⊥) (Tells text)
 told-works text = never-refuses ⊤ (Answers false text []) (Tells text) (λ need. refl) (λ o right. right) (λ h. cc)
+
+-- what holds of five inputs
+of-five : (P : List (List ℕ) → Type 0) → ((a b c d e : List ℕ) → P (a ∷ b ∷ c ∷ d ∷ e ∷ [])) → (read : List (List ℕ))
+    → length read ≡ 5 → P read
+of-five P all [] long = absurd (omega arith)
+of-five P all (a ∷ read) long = of-four (λ rest. P (a ∷ rest)) (all a) read (omega arith)
 
 -- on inputs that have their forms the work of a row's command is right by the rules
 abbrev IsRowRuled : Verb → ValuesView → List (List ℕ) → Type 0
@@ -104,7 +111,11 @@ row-works verbs.Cuts v =
 row-works verbs.Check v =
     of-four (IsRowRuled verbs.Check v) (λ f g s p all.
     needs-more (λ (small : AreOfBytes (f ∷ g ∷ s ∷ p ∷ [])). formed-content f g all.0 all.1.0 small.0)
-    (check-works (content_of_files f g) v.cpu v.file s p))
+    (check-works (content_of_files f g) v.cpu v.file s p default_require))
+row-works verbs.CheckAsked v =
+    of-five (IsRowRuled verbs.CheckAsked v) (λ f g s p r all.
+    needs-more (λ (small : AreOfBytes (f ∷ g ∷ s ∷ p ∷ r ∷ [])). formed-content f g all.0 all.1.0 small.0)
+    (asked-works (content_of_files f g) v.cpu v.file s p r all.1.1.1.1.0))
 row-works verbs.Seal v =
     of-two (IsRowRuled verbs.Seal v) (λ b s all. seal-works v.file v.spec v.out b s all.1.0)
 row-works verbs.Elf v =
@@ -232,6 +243,7 @@ row-plain verbs.Chart v h =
     of-four (IsRowPlain verbs.Chart v) (λ f g s p. by-option (drawn_work v.file v.out _ _) tt (λ e. tt) _)
 row-plain verbs.Cuts v h = cc
 row-plain verbs.Check v h = cc
+row-plain verbs.CheckAsked v h = cc
 row-plain verbs.Seal v h =
     of-two (IsRowPlain verbs.Seal v) (λ b s. by-result (seal_work v.file v.spec v.out b)
     (λ asked. by-option (seal_judged v.file v.spec v.out b asked) tt (λ e. tt) _) (λ e. tt) (spec_read s))

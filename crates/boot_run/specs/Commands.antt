@@ -18,8 +18,10 @@ use Rattle.cli_inputs.specs.Inputs.{Tells as TellsRefusal, readings, outcome_by}
 use Rattle.boot_run.specs.Inputs.{inputs_of}
 use Rattle.cli_boot.specs.Works.{boot_work, info_work, data_work}
 use Rattle.cli_explain.specs.Works.{explain_work}
-use Rattle.cli_check.specs.CheckRules.{IsCheckOf, IsCheckRefused}
-use Rattle.cli_check.specs.CheckWorks.{check_work}
+use Rattle.check_require.specs.Requires.{default_require}
+use Rattle.check_require.specs.Texts.{require_read}
+use Rattle.cli_check.specs.CheckRules.{IsAskedOf, IsCheckOf, IsCheckRefused}
+use Rattle.cli_check.specs.CheckWorks.{asked_work, check_work}
 use Rattle.cli_cuts.specs.CutsRules.{IsCutsOf, IsCutsRefused}
 use Rattle.cli_cuts.specs.CutsWorks.{cuts_work}
 use Rattle.cli_caveats.specs.Works.{caveats_work}
@@ -45,7 +47,7 @@ use Rattle.boot_rules.specs.declared.decision.Decision.TheVariants.{Bootsel as F
 use Rattle.boot_rules.specs.declared.decision.Fall.{Fall}
 use Rattle.boot_rules.specs.Chosen.{Chosen}
 use Rattle.cli_course.specs.declared.status.Status.{Status}
-use Rattle.cli_course.specs.declared.status.Status.TheVariants.{Done, Unbootable, Mixed, NoEffect, Refused}
+use Rattle.cli_course.specs.declared.status.Status.TheVariants.{Done, Unbootable, Mixed, NoEffect, Refused, Unmet}
 use Rattle.text_lines.specs.Texts.{decision_line}
 use Rattle.cli_inputs.specs.declared.forms.Form.TheVariants.{Flash, Otp}
 use Rattle.cli_inputs.specs.Rules.{AreFormed, IsRefusedFor, IsWorked}
@@ -76,7 +78,10 @@ row_work verbs.Sweep v (f ∷ g ∷ s ∷ p ∷ []) = sweep_work (content_of_fil
 row_work verbs.Chart v (f ∷ g ∷ s ∷ p ∷ []) =
     chart_work (content_of_files f g) v.cpu v.file v.out s p
 row_work verbs.Cuts v (f ∷ g ∷ s ∷ p ∷ []) = cuts_work (content_of_files f g) v.cpu v.file s p
-row_work verbs.Check v (f ∷ g ∷ s ∷ p ∷ []) = check_work (content_of_files f g) v.cpu v.file s p
+row_work verbs.Check v (f ∷ g ∷ s ∷ p ∷ []) =
+    check_work (content_of_files f g) v.cpu v.file s p default_require
+row_work verbs.CheckAsked v (f ∷ g ∷ s ∷ p ∷ r ∷ []) =
+    asked_work (content_of_files f g) v.cpu v.file s p (require_read r)
 row_work verbs.Seal v (b ∷ s ∷ []) = seal_work v.file v.spec v.out b (spec_read s)
 row_work verbs.Elf v (e ∷ s ∷ []) = elf_work v.file v.spec v.out e (spec_read s)
 row_work verbs.Firm v (i ∷ []) = firm_work v.file i v.cpu
@@ -141,6 +146,8 @@ IsRowRefused verbs.Cuts v (f ∷ g ∷ s ∷ p ∷ []) name fault =
     IsCutsRefused v.file (content_of_files f g) v.cpu s name fault
 IsRowRefused verbs.Check v (f ∷ g ∷ s ∷ p ∷ []) name fault =
     IsCheckRefused v.file (content_of_files f g) v.cpu s name fault
+IsRowRefused verbs.CheckAsked v (f ∷ g ∷ s ∷ p ∷ r ∷ []) name fault =
+    IsCheckRefused v.file (content_of_files f g) v.cpu s name fault
 IsRowRefused verbs.Seal v (b ∷ s ∷ []) name fault = IsUnsealed v.file v.spec b s name fault
 IsRowRefused verbs.Elf v (e ∷ s ∷ []) name fault = IsElfRefused v.file v.spec e s name fault
 IsRowRefused verbs.Firm v (i ∷ []) name fault = IsFirmRefused v.file i v.cpu name fault
@@ -182,7 +189,10 @@ IsRowRight verbs.Sweep v (f ∷ g ∷ s ∷ p ∷ []) o = IsSweepOf (content_of_
 IsRowRight verbs.Chart v (f ∷ g ∷ s ∷ p ∷ []) o =
     IsChartOf (content_of_files f g) v.cpu v.out s p o
 IsRowRight verbs.Cuts v (f ∷ g ∷ s ∷ p ∷ []) o = IsCutsOf (content_of_files f g) v.cpu s p o
-IsRowRight verbs.Check v (f ∷ g ∷ s ∷ p ∷ []) o = IsCheckOf (content_of_files f g) v.cpu s p o
+IsRowRight verbs.Check v (f ∷ g ∷ s ∷ p ∷ []) o =
+    IsCheckOf (content_of_files f g) v.cpu s p default_require o
+IsRowRight verbs.CheckAsked v (f ∷ g ∷ s ∷ p ∷ r ∷ []) o =
+    IsAskedOf (content_of_files f g) v.cpu s p r o
 IsRowRight verbs.Seal v (b ∷ s ∷ []) o = IsSealedOf v.out b s o
 IsRowRight verbs.Elf v (e ∷ s ∷ []) o = IsElfOf v.out e s o
 IsRowRight verbs.Firm v (i ∷ []) o = IsFirmOf i v.cpu o
@@ -227,6 +237,7 @@ needs_bytes verbs.Replay = true
 needs_bytes verbs.Sweep = true
 needs_bytes verbs.Chart = true
 needs_bytes verbs.Check = true
+needs_bytes verbs.CheckAsked = true
 needs_bytes verbs.Elf = true
 needs_bytes _ = false
 
@@ -242,6 +253,7 @@ NeedsBytes command read = Asks (needs_bytes command.verb) read
 abbrev pub judges : Verb → Bool
 judges verbs.Cuts = true
 judges verbs.Check = true
+judges verbs.CheckAsked = true
 judges _ = false
 
 -- a status of a verdict that is no pass
@@ -250,6 +262,7 @@ is_verdict Unbootable = true
 is_verdict Mixed = true
 is_verdict NoEffect = true
 is_verdict Refused = true
+is_verdict Unmet = true
 is_verdict _ = false
 
 -- each input has its form, and what is right for the command ends with this status

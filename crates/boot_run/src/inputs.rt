@@ -19,6 +19,7 @@ fn word_input<'a>(word: Word, values: &Values<'a>) -> Option<FormInput<'a>>
         Word::Otp => (values.otp, Form::Otp),
         Word::Script => (values.file, Form::Script),
         Word::Pattern => (values.pattern, Form::Pattern),
+        Word::Require => (values.require, Form::Require),
         Word::Binary => (values.file, Form::Binary),
         Word::Elf => (values.file, Form::Elf),
         Word::Spec => (values.spec, Form::Spec),

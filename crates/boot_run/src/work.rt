@@ -15,13 +15,14 @@ ghost use Rattle.boot_run.specs.Commands.{IsDone, command_outcome};
 
 use cli_boot::{boot, data, info};
 use cli_caveats::caveats;
-use cli_check::check;
+use cli_check::{check, check_asked};
 use cli_course::{Answer, told};
 use cli_cuts::cuts;
 use cli_explain::explain;
 use cli_inputs::{
-    InputFail, four, one, read_binary, read_board, read_elf, read_image, read_otp, read_pattern,
-    read_script, read_source, read_spec, read_table, read_text, read_uf2, three, two,
+    InputFail, five, four, one, read_binary, read_board, read_elf, read_image, read_otp,
+    read_pattern, read_require, read_script, read_source, read_spec, read_table, read_text,
+    read_uf2, three, two,
 };
 use cli_map::map_flash;
 use cli_otp::otp;
@@ -117,6 +118,19 @@ fn check_on<'a>(alloc: Global, files: Vec<Vec<u8>>, values: &Values<'a>) -> Done
     Ok(check(alloc, board, values.cpu, values.file, events, bytes)?)
 }
 
+/// Whether an update meets what a team asks of it.
+fn check_asked_on<'a>(alloc: Global, files: Vec<Vec<u8>>, values: &Values<'a>) -> Done<'a>
+    requires { length files.items ≡ 5 }
+    ensures { IsDone verbs.CheckAsked values.now (bytes_of_files files.items) result }
+{
+    let (flash, otp, script, pattern, require) = five(files);
+    let board = read_board(alloc, values.flash, flash, values.otp, &otp)?;
+    let events = read_script(alloc, values.file, &script)?;
+    let bytes = read_pattern(alloc, values.pattern, &pattern)?;
+    let ask = read_require(alloc, values.require, &require)?;
+    Ok(check_asked(alloc, board, values.cpu, values.file, events, bytes, &ask)?)
+}
+
 /// The sealed image of a binary.
 fn seal_on<'a>(alloc: Global, files: Vec<Vec<u8>>, values: &Values<'a>) -> Done<'a>
     requires { length files.items ≡ 2 }
@@ -203,6 +217,7 @@ fn perform<'a>(alloc: Global, command: &CommandLine<'a>, files: Vec<Vec<u8>>) ->
         Verb::Chart => chart_on(alloc, files, args),
         Verb::Cuts => cuts_on(alloc, files, args),
         Verb::Check => check_on(alloc, files, args),
+        Verb::CheckAsked => check_asked_on(alloc, files, args),
         Verb::Seal => seal_on(alloc, files, args),
         Verb::Elf => elf_on(alloc, files, args),
         Verb::Firm => {

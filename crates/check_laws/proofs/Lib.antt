@@ -12,3 +12,4 @@ mod RecordLemmas
 pub mod WriteLawLemmas
 pub mod MadeLemmas
 pub mod PassLemmas
+pub mod ToldLemmas

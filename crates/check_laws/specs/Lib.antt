@@ -7,3 +7,4 @@ pub mod Triples
 pub mod OwnLaws
 pub mod Made
 pub mod Kept
+pub mod Told

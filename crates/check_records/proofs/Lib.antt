@@ -6,9 +6,10 @@ mod OtherLemmas
 mod ServedLemmas
 mod SightLemmas
 mod PlayLemmas
-mod UnerasedLemmas
+pub mod UnerasedLemmas
 mod EraseLemmas
 mod RepeatLemmas
-mod AgainLemmas
+pub mod AgainLemmas
 mod CaveatLemmas
 mod HoldLemmas
+pub mod GatedLemmas

@@ -11,4 +11,5 @@ pub mod Noting
 pub mod Seeing
 pub mod Erased
 pub mod Caveats
+pub mod GatedBlocks
 pub mod Examples

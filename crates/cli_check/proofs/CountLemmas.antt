@@ -1,77 +1,208 @@
--- The cuts of each class, counted over the runs.
-use Rattle.std.proofs.Common.{◌≡◌, ℕ, ◌+◌, ◌-◌, ◌≤◌, ◌&&◌, Bool, true, false, cond, List, [], ◌∷◌, length, refl, ap, ◌∙◌, arith}
-use Rattle.std.proofs.lemmas.List.Sums.{sum_by-cons, count_by-le-length}
-use Rattle.boot_sweep.specs.Comparing.{is_same_decision}
+-- The counts over cuts are those of the rules, and no others are.
+use Rattle.std.proofs.Common.{◌≡◌, ◌≢◌, ◌⊎◌, ◌↔◌, inl, inr, ℕ, ◌+◌, Bool, true, false, cond, List, [], ◌∷◌, refl, sym, ap, ◌∙◌, subst, arith}
+use Rattle.std.specs.Prelude.{◌||◌, not, nat_lt, count_by, map, Contains}
+use Rattle.std.specs.List.{list_any}
+use Rattle.std.proofs.lemmas.Bool.{and_from, and_parts, lt-ltb, ltb-true}
+use Rattle.std.proofs.lemmas.List.Sums.{sum_by-append}
+use Rattle.pico_board.specs.declared.boot.Cpu.{Cpu}
+use Rattle.pico_board.specs.declared.boot.BootKind.TheVariants.{Normal}
+use Rattle.pico_board.specs.declared.window.Window.{Window}
+use Rattle.pico_board.specs.Content.{Content}
+use Rattle.boot_rules.specs.declared.decision.Decision.{Decision}
+use Rattle.boot_rules.specs.declared.decision.Decision.TheVariants.{Start, Bootsel}
+use Rattle.boot_rules.specs.Choosing.{decision_in}
+use Rattle.boot_rules.specs.Chosen.{Chosen}
+use Rattle.boot_rules.proofs.DecisionLemmas.{chosen-decision, decision-chosen}
+use Rattle.boot_script.specs.Events.{EventView}
 use Rattle.boot_cuts.specs.declared.answers.Answer.{Answer}
 use Rattle.boot_cuts.specs.declared.answers.Class.{Class}
-use Rattle.boot_cuts.specs.declared.runs.Run.{Run}
-use Rattle.boot_cuts.specs.Counts.{class_count, has_class, run_count, runs_count}
-use Rattle.boot_cuts.proofs.RunLawLemmas.{same-class}
-use Rattle.boot_cuts.specs.Runs.{is_same_answer, is_same_class, lone_run, longer_run, runs_behind, runs_of}
+use Rattle.boot_cuts.specs.declared.answers.Class.TheVariants as classes
+use Rattle.boot_cuts.specs.Answers.{answer_of, answers}
+use Rattle.boot_cuts.specs.Classes.{Falls, IsClass}
+use Rattle.boot_cuts.specs.Classing.{class_of, is_start}
+use Rattle.boot_cuts.specs.Runs.{is_same_class}
+use Rattle.boot_cuts.specs.Tears.{left_torn}
+use Rattle.boot_cuts.proofs.ClassLemmas.{class-exactly}
+use Rattle.boot_cuts.proofs.RunLawLemmas.{class-self, same-class}
+use Rattle.boot_tape.specs.Traces.{trace}
+use Rattle.check_counts.specs.Counted.{script_cuts}
+use Rattle.check_counts.specs.Facts.{Sides, falls_on, has_other_table, is_early, is_of_class, is_on_other_data, is_other_class, is_raising}
+use Rattle.check_data.specs.declared.found.DataWindow.{DataWindow}
+use Rattle.check_data.specs.Early.{StartsEarly}
+use Rattle.check_data.specs.Others.{RunsOnOthers}
+use Rattle.check_data.proofs.EarlyLemmas.{early-exactly}
+use Rattle.check_data.proofs.ListLemmas.{in-cases, in-first, in-none, in-rest, mapped, passes, passing}
+use Rattle.check_data.proofs.OtherLemmas.{other-exactly}
+use Rattle.check_images.specs.Raising.{boot_raises}
+use Rattle.check_records.specs.Again.{HasOtherClass, HasOtherTable}
+use Rattle.cli_check.specs.Finding.{script_sides, windows_of}
+use Rattle.cli_check.specs.FindingRules.{AreSoMany, AreSoManyEach, HasClass, IsRaising}
+use Rattle.cli_check.proofs.TestLemmas.{apart, false-so}
+use Rattle.cli_check.proofs.TableLemmas.{other-table}
 
-both : (a b : Bool) → (a && b) ≡ true → (a ≡ true) × (b ≡ true)
-both true b is = (refl, is)
-both false b is = cc
+-- one thing more is counted where it passes
+count-more : (p : Content → Bool) (d : Content) (ds : List Content) (b : Bool) → p d ≡ b
+    → count_by p (d ∷ ds) ≡ (0 + cond b 1 0) + count_by p ds
+count-more p d ds b e =
+    sum_by-append (λ y. cond (p y) 1 0) (d ∷ []) ds ∙ ap (λ t. (0 + cond t 1 0) + count_by p ds) e
 
--- the same answer has the same class
-same-count : (class : Class) (a b : Answer) → is_same_answer a b ≡ true → has_class class a ≡ has_class class b
-same-count class a b is =
-    let parts = both (is_same_class a.class b.class) (is_same_decision a.decision b.decision) is in
-    ap (λ (x : Class). is_same_class class x) (same-class a.class b.class parts.0)
+none-more : (n : ℕ) → (0 + cond false 1 0) + n ≡ n
+none-more n = omega arith
 
--- one cut
-abbrev one : Bool → ℕ
-one t = cond t 1 0
+one-more : (n : ℕ) → (0 + cond true 1 0) + n ≡ 1 + n
+one-more n = omega arith
 
-count-more : (class : Class) (a : Answer) (answers : List Answer)
-    → class_count class (a ∷ answers) ≡ one (has_class class a) + class_count class answers
-count-more class a answers = sum_by-cons (λ (x : Answer). one (has_class class x)) a answers
+module _ (p : Content → Bool) (IsSo : Content → Type 0) (exactly : (d : Content) → (p d ≡ true) ↔ IsSo d) where
+  -- so many of the contents are so as pass the test
+  pub so-many : (ds : List Content) → AreSoMany IsSo ds (count_by p ds)
+  so-many [] = refl
+  so-many (d ∷ ds) = by (p d) refl (so-many ds)
+    where
+      by : (b : Bool) → p d ≡ b → AreSoMany IsSo ds (count_by p ds) → AreSoMany IsSo (d ∷ ds) (count_by p (d ∷ ds))
+      by true e rest =
+          inl ((exactly d).0 e, (count_by p ds, count-more p d ds true e ∙ one-more (count_by p ds), rest))
+      by false e rest = inr (
+        λ is. apart (p d) ((exactly d).1 is) e,
+        subst (λ n. AreSoMany IsSo ds n) (sym (count-more p d ds false e ∙ none-more (count_by p ds))) rest,
+      )
 
--- a run that ends before cut k, and then the cuts from k on
-behind-count : (class : Class) (run : Run) (k : ℕ) (answers : List Answer) → run.first ≤ run.last → run.last + 1 ≡ k
-    → runs_count class (runs_behind run k answers) ≡ run_count class run + class_count class answers
-behind-count class run k [] some ends = refl
-behind-count class run k (a ∷ answers) some ends =
-    by_answer (behind-count class (longer_run run k) (k + 1) answers (omega (arith, some, ends)) refl)
-    (behind-count class (lone_run k a) (k + 1) answers (omega arith) refl) (is_same_answer a run.answer) refl
+  pub so-many-once : (ds : List Content) (n : ℕ) → AreSoMany IsSo ds n → n ≡ count_by p ds
+  so-many-once [] n e = e
+  so-many-once (d ∷ ds) n (inl (is, (m, more, rest))) =
+      more ∙ (ap (λ k. 1 + k) (so-many-once ds m rest)
+      ∙ sym (count-more p d ds true ((exactly d).1 is) ∙ one-more (count_by p ds)))
+  so-many-once (d ∷ ds) n (inr (never, rest)) =
+      so-many-once ds n rest
+      ∙ sym (count-more p d ds false (false-so (p d) (λ e. never ((exactly d).0 e))) ∙ none-more (count_by p ds))
+
+-- the same in each of some windows
+module _ (p : DataWindow → Content → Bool) (IsSo : Window → Content → Type 0) (ds : List Content) where
+  pub so-many-each : (ws : List DataWindow)
+      → ((w : DataWindow) → Contains ws w → (d : Content) → (p w d ≡ true) ↔ IsSo w.window d)
+      → AreSoManyEach IsSo ds ws (map (λ w. count_by (p w) ds) ws)
+  so-many-each [] exactly = tt
+  so-many-each (w ∷ ws) exactly = (
+    so-many (p w) (IsSo w.window) (exactly w (in-first w ws)) ds,
+    so-many-each ws (λ v among. exactly v (in-rest w v ws among)),
+  )
+
+  pub so-many-each-once : (ws : List DataWindow)
+      → ((w : DataWindow) → Contains ws w → (d : Content) → (p w d ≡ true) ↔ IsSo w.window d) → (ns : List ℕ)
+      → AreSoManyEach IsSo ds ws ns → ns ≡ map (λ w. count_by (p w) ds) ws
+  so-many-each-once [] exactly [] all = refl
+  so-many-each-once [] exactly (n ∷ ns) all = absurd all
+  so-many-each-once (w ∷ ws) exactly [] all = absurd all
+  so-many-each-once (w ∷ ws) exactly (n ∷ ns) all =
+      ap (λ m. m ∷ ns) (so-many-once (p w) (IsSo w.window) (exactly w (in-first w ws)) ds n all.0)
+      ∙ ap (λ ms. count_by (p w) ds ∷ ms)
+      (so-many-each-once ws (λ v among. exactly v (in-rest w v ws among)) ns all.1)
+
+-- a boot falls exactly where it does not start
+pub falls-exactly : (cpu : Cpu) (d : Content) → (falls_on cpu d ≡ true) ↔ Falls d cpu
+falls-exactly cpu d = (go (decision_in d cpu Normal) (decision-chosen d cpu Normal), back)
   where
-    longer : (t : Bool) → cond t (k + 1 - run.first) 0 ≡ cond t (run.last + 1 - run.first) 0 + one t
-    longer true = omega (arith, some, ends)
-    longer false = refl
+    go : (e : Decision) → Chosen d cpu Normal e → not (is_start e) ≡ true → Falls d cpu
+    go (Start choice) chosen is = cc
+    go (Bootsel fall) chosen is = record { fall = fall; here = chosen }
 
-    lone : (t : Bool) → cond t (k + 1 - k) 0 ≡ one t
-    lone true = omega arith
-    lone false = refl
+    back : Falls d cpu → falls_on cpu d ≡ true
+    back falls = sym (ap (λ e. not (is_start e)) (chosen-decision d cpu Normal (Bootsel falls.fall) falls.here))
 
-    by_answer : runs_count class (runs_behind (longer_run run k) (k + 1) answers)
-        ≡ run_count class (longer_run run k) + class_count class answers
-        → runs_count class (runs_behind (lone_run k a) (k + 1) answers)
-        ≡ run_count class (lone_run k a) + class_count class answers
-        → (t : Bool) → is_same_answer a run.answer ≡ t
-        → runs_count class (cond t (runs_behind (longer_run run k) (k + 1) answers)
-        (run ∷ runs_behind (lone_run k a) (k + 1) answers))
-        ≡ run_count class run + class_count class (a ∷ answers)
-    by_answer same other true is =
-        let grows = longer (has_class class run.answer) in
-        let same_class = ap one (same-count class a run.answer is) in
-        let more = count-more class a answers in
-        omega (arith, same, grows, same_class, more)
-    by_answer same other false is =
-        let begins = lone (has_class class a) in
-        let more = count-more class a answers in
-        omega (arith, other, begins, more)
-
-pub runs-count : (class : Class) (answers : List Answer) → runs_count class (runs_of answers) ≡ class_count class answers
-runs-count class [] = refl
-runs-count class (a ∷ answers) =
-    let whole = behind-count class (lone_run 0 a) 1 answers (omega arith) refl in
-    let begins = lone (has_class class a) in
-    let more = count-more class a answers in
-    omega (arith, whole, begins, more)
+-- an element of a mapped list
+in-mapped : {X Y : Type 0} (f : X → Y) (xs : List X) (x : X) → Contains xs x → Contains (map f xs) (f x)
+in-mapped f [] x is = absurd (in-none x is)
+in-mapped f (y ∷ ys) x is = go (in-mapped f ys x) (in-cases y x ys is)
   where
-    lone : (t : Bool) → cond t (0 + 1 - 0) 0 ≡ one t
-    lone true = refl
-    lone false = refl
+    go : (Contains ys x → Contains (map f ys) (f x)) → (y ≡ x) ⊎ Contains ys x → Contains (f y ∷ map f ys) (f x)
+    go rest (inl first) = subst (λ z. Contains (f y ∷ map f ys) z) (ap f first) (in-first (f y) (map f ys))
+    go rest (inr later) = in-rest (f y) (f x) (map f ys) (rest later)
 
-pub class-few : (class : Class) (answers : List Answer) → class_count class answers ≤ length answers
-class-few class answers = count_by-le-length (has_class class) answers
+-- a class that is not this one
+other-class : (a b : Class) → is_same_class a b ≡ false → b ≢ a
+other-class a b none e =
+    apart (is_same_class a b) (subst (λ x. is_same_class a x ≡ true) (sym e) (class-self a)) none
+
+class-other : (a b : Class) → b ≢ a → is_same_class a b ≡ false
+class-other a b differ = false-so (is_same_class a b) (λ same. differ (sym (same-class a b same)))
+
+neither : (a b : Bool) → not (a || b) ≡ true → (a ≡ false) × (b ≡ false)
+neither true b e = cc
+neither false true e = cc
+neither false false e = (refl, refl)
+
+none-of : (a b : Bool) → a ≡ false → b ≡ false → not (a || b) ≡ true
+none-of true b one two = cc
+none-of false true one two = cc
+none-of false false one two = refl
+
+module _ (c : Content) (cpu : Cpu) (events : List EventView) (pattern : List ℕ) where
+  abbrev sides : Sides
+  sides = script_sides c cpu events
+
+  abbrev last : Content
+  last = (trace c cpu events).last
+
+  pub class-is : (class : Class) (d : Content) → (is_of_class sides class d ≡ true) ↔ HasClass c cpu events class d
+  class-is class d = (
+    λ same. exact.1 (same-class class (class_of c last (left_torn (trace c cpu events).moves) cpu d) same),
+    λ is. subst (λ k. is_same_class class k ≡ true) (exact.0 is) (class-self class),
+  )
+    where
+      exact : IsClass c last (trace c cpu events).moves d cpu class
+          ↔ (class ≡ class_of c last (left_torn (trace c cpu events).moves) cpu d)
+      exact = class-exactly c last (trace c cpu events).moves d cpu class
+
+  pub early-is : (d : Content)
+      → (is_early sides d ≡ true) ↔ StartsEarly c last (trace c cpu events).moves cpu d
+  early-is d = early-exactly c last (trace c cpu events).moves cpu d
+
+  pub other-is : (w : DataWindow) → Contains (windows_of c cpu events) w → (d : Content)
+      → (is_on_other_data sides w d ≡ true)
+      ↔ RunsOnOthers c last (trace c cpu events).moves cpu w.window d
+  other-is w among d = other-exactly c last cpu (trace c cpu events).moves w among d
+
+  pub raising-is : (d : Content) → (is_raising sides d ≡ true) ↔ IsRaising c cpu events d
+  raising-is d = (
+    λ e. let both = and_parts (is_of_class sides classes.Mixed d) (nat_lt 0 (boot_raises d cpu)) e in
+        ((class-is classes.Mixed d).0 both.0, ltb-true 0 (boot_raises d cpu) both.1),
+    λ is. and_from (is_of_class sides classes.Mixed d) (nat_lt 0 (boot_raises d cpu))
+        ((class-is classes.Mixed d).1 is.0) (lt-ltb 0 (boot_raises d cpu) is.1),
+  )
+
+  pub table-is : (list_any (has_other_table c) (script_cuts c cpu events pattern) ≡ true)
+      ↔ HasOtherTable c (script_cuts c cpu events pattern)
+  table-is = (
+    λ e. let some = passing (has_other_table c) (script_cuts c cpu events pattern) e in
+        record { left = some.0; among = some.1; table = (other-table c some.0).0 some.2 },
+    λ other. passes (has_other_table c) (script_cuts c cpu events pattern) other.left other.among
+        ((other-table c other.left).1 other.table),
+  )
+
+  abbrev answer_on : Content → Answer
+  answer_on = answer_of c last (left_torn (trace c cpu events).moves) cpu
+
+  pub other-class-is : (list_any (is_other_class sides) (script_cuts c cpu events pattern) ≡ true)
+      ↔ HasOtherClass (answers c cpu events pattern)
+  other-class-is = (found, finds)
+    where
+      found : list_any (is_other_class sides) (script_cuts c cpu events pattern) ≡ true
+          → HasOtherClass (answers c cpu events pattern)
+      found e =
+          let some = passing (is_other_class sides) (script_cuts c cpu events pattern) e in
+          let d = some.0 in
+          let none = neither (is_of_class sides classes.Former d) (is_of_class sides classes.Bootsel d) some.2 in record {
+            answer = answer_on d;
+            among = in-mapped answer_on (script_cuts c cpu events pattern) d some.1;
+            started = other-class classes.Former (answer_on d).class none.0;
+            other = other-class classes.Bootsel (answer_on d).class none.1;
+          }
+
+      finds : HasOtherClass (answers c cpu events pattern)
+          → list_any (is_other_class sides) (script_cuts c cpu events pattern) ≡ true
+      finds other =
+          let some = mapped answer_on (script_cuts c cpu events pattern) other.answer other.among in
+          let same : (answer_on some.0).class ≡ other.answer.class = ap (λ (a : Answer). a.class) some.2 in
+          passes (is_other_class sides) (script_cuts c cpu events pattern) some.0 some.1
+          (none-of (is_of_class sides classes.Former some.0) (is_of_class sides classes.Bootsel some.0)
+          (class-other classes.Former (answer_on some.0).class (λ e. other.started (sym same ∙ e)))
+          (class-other classes.Bootsel (answer_on some.0).class (λ e. other.other (sym same ∙ e))))

@@ -1,10 +1,17 @@
-mod PoolLemmas
-mod RecordLemmas
-mod ServingLemmas
+mod TestLemmas
+mod TableLemmas
 mod CountLemmas
+mod SeenLemmas
+mod PartLemmas
+mod ImageLemmas
 mod FindingLemmas
-mod LawLemmas
-mod WholeLemmas
-mod SessionLawLemmas
 mod VerdictLemmas
 pub mod CheckRuleLemmas
+pub mod TallyLemmas
+pub mod FoundLemmas
+pub mod TraceLemmas
+pub mod ImagesFoundLemmas
+mod PairLemmas
+mod NameLemmas
+pub mod WorkLemmas
+mod LostLemmas

@@ -1,89 +1,66 @@
 -- What is right for `check`, in the words of the rules.
-use Rattle.std.specs.Prelude.{◌≡◌, ◌≢◌, ◌⊎◌, ℕ, ◌<◌, true, false, List, [], length, slice_get, Option, Some, None, codes}
+use Rattle.std.specs.Prelude.{◌≡◌, ◌≢◌, ℕ, ◌<◌, List, [], length, codes}
 use Rattle.pico_board.specs.declared.boot.Cpu.{Cpu}
-use Rattle.pico_board.specs.declared.boot.BootKind.TheVariants.{Normal}
 use Rattle.pico_board.specs.Content.{Content, IsContent}
-use Rattle.boot_rules.specs.Chosen.{Chosen}
-use Rattle.boot_script.specs.Events.{EventView}
 use Rattle.boot_script.specs.Scripts.{script_events}
-use Rattle.text_lines.specs.declared.outcome.EventOutcome.{EventOutcome}
-use Rattle.boot_plays.specs.Plays.{played, powerless}
-use Rattle.boot_cuts.specs.declared.answers.Answer.{Answer}
-use Rattle.boot_cuts.specs.declared.answers.Class.TheVariants.{Bootsel}
-use Rattle.boot_cuts.specs.Classes.{IsClass}
-use Rattle.boot_cuts.specs.Contents.{cut_contents}
 use Rattle.boot_cuts.specs.Found.{IsShort, trace_limit}
-use Rattle.boot_cuts.specs.Told.{AreAnswers}
-use Rattle.boot_tape.specs.Traces.{trace, trace_steps}
-use Rattle.cli_course.specs.Outcomes.{AnswerView, verdict_status, Verdict, Passes, IsUnbootable, IsMixed, HasNoEffect, IsRefused}
-use Rattle.cli_check.specs.declared.findings.Findings.{Findings}
-use Rattle.cli_check.specs.CheckWorks.{counts_of, hash_of, raise_count}
-use Rattle.cli_check.specs.Findings.{findings_text, has_effect}
-use Rattle.cli_check.specs.Records.{does_nothing}
-use Rattle.cli_check.specs.SessionLaws.{IsSessionLaw}
+use Rattle.boot_tape.specs.Traces.{trace}
+use Rattle.check_require.specs.declared.members.Member.TheVariants.{Effect, Records}
+use Rattle.check_require.specs.declared.requirement.Allowance.TheVariants.{Mixed, Bootsel}
+use Rattle.check_require.specs.Meeting.{allows, is_met, some_bootsel, some_mixed, unmet}
+use Rattle.check_require.specs.Reports.{ReportView}
+use Rattle.check_require.specs.Requires.{RequireView}
+use Rattle.check_require.specs.Texts.{IsRequireText}
+use Rattle.std.specs.Prelude.{false, true}
+use Rattle.cli_course.specs.Outcomes.{AnswerView, verdict_status, Verdict, Passes, IsUnbootable, IsMixed, HasNoEffect, IsRefused, IsUnmet}
+use Rattle.cli_check.specs.CheckTexts.{check_text}
+use Rattle.cli_check.specs.FindingRules.{AreFindings}
+use Rattle.cli_check.specs.Findings.{FindingsView}
+use Rattle.cli_check.specs.Reporting.{report_of}
 
--- event number n is the first that did nothing, or none is
-abbrev pub IsFirstRefused : List EventOutcome → Option ℕ → Type 0
-IsFirstRefused outcomes None =
-    (k : ℕ) (outcome : EventOutcome) → slice_get outcomes k ≡ Some outcome
-    → does_nothing outcome ≡ false
-IsFirstRefused outcomes (Some n) =
-    ((outcome : EventOutcome) × (slice_get outcomes n ≡ Some outcome)
-    × (does_nothing outcome ≡ true))
-    × ((k : ℕ) (outcome : EventOutcome) → k < n → slice_get outcomes k ≡ Some outcome
-    → does_nothing outcome ≡ false)
+-- some cut, or the end, starts a half-written image, and this is not allowed
+abbrev pub IsHalfWritten : RequireView → ReportView → Type 0
+IsHalfWritten ask r = (some_mixed r ≡ true) × (allows ask.cuts Mixed ≡ false)
 
--- The verdict. An update passes where each record did something, there is an effect, and it is
--- safe. It is safe where no loss of power leaves something else than the former or the finished
--- answer. Otherwise it is the first of the others that holds.
-abbrev pub IsSafe : Findings → Type 0
-IsSafe f = (f.cuts.bootsel ≡ 0) × (f.cuts.other ≡ 0)
+-- some cut, or the end, starts nothing, and this is not allowed
+abbrev pub IsLeftDead : RequireView → ReportView → Type 0
+IsLeftDead ask r = (some_bootsel r ≡ true) × (allows ask.cuts Bootsel ≡ false)
 
-abbrev pub IsPassing : Findings → Type 0
-IsPassing f = IsSafe f × (f.refused ≡ None) × (has_effect f ≡ true)
+-- the verdict: it passes where no member is unmet; otherwise it is the first of the others that
+-- holds, and the last one where none does
+abbrev pub IsVerdict : RequireView → ReportView → Verdict → Type 0
+IsVerdict ask r Passes = unmet ask r ≡ []
+IsVerdict ask r IsMixed = IsHalfWritten ask r
+IsVerdict ask r IsUnbootable = (IsHalfWritten ask r → ⊥) × IsLeftDead ask r
+IsVerdict ask r IsRefused =
+    (IsHalfWritten ask r → ⊥) × (IsLeftDead ask r → ⊥) × (is_met ask r Records ≡ false)
+IsVerdict ask r HasNoEffect =
+    (IsHalfWritten ask r → ⊥) × (IsLeftDead ask r → ⊥) × (is_met ask r Records ≡ true)
+    × (is_met ask r Effect ≡ false)
+IsVerdict ask r IsUnmet =
+    (IsHalfWritten ask r → ⊥) × (IsLeftDead ask r → ⊥) × (is_met ask r Records ≡ true)
+    × (is_met ask r Effect ≡ true) × (unmet ask r ≢ [])
 
-abbrev pub IsLeftDead : Findings → Type 0
-IsLeftDead f = (f.cuts.bootsel ≢ 0) ⊎ (f.end_class ≡ Bootsel)
-
-abbrev pub IsVerdict : Findings → Verdict → Type 0
-IsVerdict f Passes = IsPassing f
-IsVerdict f IsMixed = (IsPassing f → ⊥) × (f.cuts.other ≢ 0)
-IsVerdict f IsUnbootable = (IsPassing f → ⊥) × (f.cuts.other ≡ 0) × IsLeftDead f
-IsVerdict f IsRefused =
-    (IsPassing f → ⊥) × (f.cuts.other ≡ 0) × (IsLeftDead f → ⊥) × (f.refused ≢ None)
-IsVerdict f HasNoEffect =
-    (IsPassing f → ⊥) × (f.cuts.other ≡ 0) × (IsLeftDead f → ⊥) × (f.refused ≡ None)
-
--- What is found of a script that leads from the content c to z. It has what a normal boot decides
--- on c and on z, and the class of z. It has the first record that did nothing, and whether the
--- image that starts on z has a digest. Last come the raises, the law, and the cuts of each class.
-pub record AreFindings (c : Content) (cpu : Cpu) (events : List EventView) (pattern : List ℕ)
-    (f : Findings) : Type 0 where
-  pub former : Chosen c cpu Normal f.former
-  pub finished : Chosen (trace c cpu events).last cpu Normal f.finished
-  pub end_class : IsClass c (trace c cpu events).last (trace c cpu events).moves
-      (trace c cpu events).last cpu f.end_class
-  pub refused : IsFirstRefused (played (powerless c cpu) events).outcomes f.refused
-  pub hashed : f.hashed ≡ hash_of (trace c cpu events).last cpu f.finished
-  pub raised : f.raised ≡ raise_count (trace_steps (trace c cpu events).done)
-  pub law_is : IsSessionLaw c cpu events f.law
-  pub found : List Answer
-  pub answered : AreAnswers c (trace c cpu events).last (trace c cpu events).moves cpu
-      (cut_contents pattern (trace c cpu events).done) found
-  pub counted : f.cuts ≡ counts_of found
-
--- `check`: the outcome tells what is found, in eight lines, and ends with the verdict's status
-pub record IsCheckOf (c : Content) (cpu : Cpu) (script pattern : List ℕ) (o : AnswerView)
-    : Type 0 where
+-- `check` by what is asked: the outcome tells what is found and which members are not met, and ends
+-- with the verdict's status
+pub record IsCheckOf (c : Content) (cpu : Cpu) (script pattern : List ℕ) (ask : RequireView)
+    (o : AnswerView) : Type 0 where
   pub right : IsContent c
   pub short : IsShort c cpu (script_events script)
-  pub findings : Findings
+  pub findings : FindingsView
   pub are : AreFindings c cpu (script_events script) pattern findings
   pub verdict : Verdict
-  pub judged : IsVerdict findings verdict
+  pub judged : IsVerdict ask (report_of findings) verdict
   pub status : o.status ≡ verdict_status verdict
-  pub text : o.text ≡ findings_text findings
+  pub text : o.text ≡ check_text findings (unmet ask (report_of findings))
   pub files : o.files ≡ []
+
+-- the same by a text of what is asked
+pub record IsAskedOf (c : Content) (cpu : Cpu) (script pattern require : List ℕ) (o : AnswerView)
+    : Type 0 where
+  pub ask : RequireView
+  pub text : IsRequireText require ask
+  pub check : IsCheckOf c cpu script pattern ask o
 
 -- the script is refused exactly where its trace has too many steps
 abbrev pub IsCheckRefused : List ℕ → Content → Cpu → List ℕ → List ℕ → List ℕ → Type 0

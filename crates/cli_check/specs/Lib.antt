@@ -1,8 +1,10 @@
--- These definitions are this project's own, except where a comment names a public source.
-pub mod Records
-pub mod Sessions
-pub mod SessionLaws
+-- These definitions are this project's own.
 pub mod Findings
+pub mod CheckTexts
+pub mod Reporting
+pub mod Finding
 pub mod CheckWorks
+pub mod FindingRules
 pub mod CheckRules
-pub mod Serving
+pub mod Names
+pub mod Examples

@@ -1,94 +1,91 @@
-//! What is found of an update, and the answer of `check`.
+//! The answer of `check`.
 
-ghost use Rattle.std.specs.Prelude.{◌≡◌, ℕ, IfOk, IsTrue, List};
+ghost use Rattle.std.specs.Prelude.{◌≡◌, IfOk};
 ghost use Rattle.pico_board.specs.MemBoard.{state_of};
-ghost use Rattle.boot_script.specs.Events.{EventView};
 ghost use Rattle.boot_script.specs.Scripts.{script_events};
 ghost use Rattle.boot_session.specs.Standing.{IsUnarmed};
-ghost use Rattle.boot_cuts.specs.Found.{AreCutsOf};
 ghost use Rattle.boot_tape.specs.Playing.{IsTraceOf};
-ghost use Rattle.boot_tape.specs.Traces.{trace};
-ghost use Rattle.boot_plays.specs.Plays.{played, powerless};
-ghost use Rattle.cli_check.specs.Records.{refused_from};
-ghost use Rattle.cli_check.specs.Sessions.{is_one_session};
-ghost use Rattle.cli_course.specs.Outcomes.{worked};
+ghost use Rattle.check_require.specs.Requires.{default_require, require_from};
+ghost use Rattle.cli_course.specs.Outcomes.{verdict_status, worked};
 ghost use Rattle.cli_course.specs.Views.{answer_from};
-ghost use Rattle.cli_check.specs.CheckWorks.{check_work, findings_of, found_work};
+ghost use Rattle.cli_check.specs.CheckWorks.{check_work, found_work, verdict_of};
+ghost use Rattle.cli_check.specs.Finding.{findings_of};
 
-use crate::counting::{cut_counts, hash_of, raise_count};
-use crate::findings::Findings;
-use crate::lines::{findings_text, verdict};
-use crate::records::refused_in;
-use crate::serving::is_one_session;
-use crate::sessions::law_by;
-use boot_cuts::{Cuts, cuts_of};
+use crate::finding::findings_on;
+use crate::lines::check_text;
+use crate::reporting::report_of;
 use boot_script::Script;
 use boot_tape::{Trace, copy_of, trace_on};
-use cli_course::{Answer, ended, refusal};
+use check_require::{Require, Verdict, default_require, unmet, verdict_on};
+use cli_course::{Answer, Status, ended, refusal};
 use cli_inputs::Pattern;
 use pico_board::{Cpu, MemBoard};
 use std::alloc::{AllocError, Global};
 
-/// What is found of a script that leads from one board to another, by its cuts and its records.
-fn findings_by(
-    start: &MemBoard,
-    end: &MemBoard,
-    cpu: Cpu,
-    found: Cuts,
-    refused: Option<usize>,
-    one: bool,
-) -> Findings
-    requires start { IsTrue (state_of start.now).powered }
-    requires end { IsTrue (state_of end.now).powered }
-    requires found { (events : List EventView) × (pattern : List ℕ)
-        × AreCutsOf (state_of start.now).content cpu events pattern found
-        × ((state_of end.now).content ≡ (trace (state_of start.now).content cpu events).last) }
-    ensures { (events : List EventView) (pattern : List ℕ)
-        → AreCutsOf (state_of start.now).content cpu events pattern found
-        → (state_of end.now).content ≡ (trace (state_of start.now).content cpu events).last
-        → refused ≡ refused_from 0
-        (played (powerless (state_of start.now).content cpu) events).outcomes
-        → one ≡ is_one_session (state_of start.now).content cpu events
-        → result ≡ findings_of (state_of start.now).content cpu events pattern }
+/// The status of a verdict.
+fn status_of(verdict: Verdict) -> Status
+    ensures { result ≡ verdict_status (verdict_of verdict) }
 {
-    let law = law_by(start, end, cpu, &found.former, &found.steps, one);
-    Findings {
-        hashed: hash_of(end, cpu, &found.finished),
-        former: found.former,
-        finished: found.finished,
-        end_class: found.end_,
-        refused,
-        raised: raise_count(&found.steps),
-        law,
-        cuts: cut_counts(&found.runs),
+    match verdict {
+        Verdict::Passed => Status::Done,
+        Verdict::Mixed => Status::Mixed,
+        Verdict::Unbootable => Status::Unbootable,
+        Verdict::Refused => Status::Refused,
+        Verdict::NoEffect => Status::NoEffect,
+        Verdict::Unmet => Status::Unmet,
     }
 }
 
-/// What is found of a script on a board, by what it does to the board.
-fn findings_on(
+/// The answer on a script that completes few enough steps, by what it does to the board.
+fn judged<'a>(
     alloc: Global,
-    board: MemBoard,
+    board: &MemBoard,
     cpu: Cpu,
     trace: &Trace<'_>,
     script: &Script<'_>,
     pattern: Pattern<'_>,
-) -> Result<Findings, AllocError>
-    requires ready { IsUnarmed (state_of board) }
-    requires trace { IsTraceOf (state_of board).content cpu
+    ask: &Require,
+) -> Result<Answer<'a>, AllocError>
+    requires ready { IsUnarmed (state_of board.now) }
+    requires trace { IsTraceOf (state_of board.now).content cpu
         (script_events script.now.bytes.now) trace.now }
-    ensures { IfOk result (λ findings. findings ≡ findings_of (state_of board).content cpu
-        (script_events script.now.bytes.now) pattern.entry.bytes.now) }
+    ensures { IfOk result (λ answer. answer_from answer
+        ≡ worked (found_work (require_from ask.now) (findings_of (state_of board.now).content cpu
+        (script_events script.now.bytes.now) pattern.entry.bytes.now))) }
 {
-    let refused = refused_in(alloc, &board, cpu, script)?;
-    let one = is_one_session(alloc, &board, cpu, script)?;
-    let start = copy_of(alloc, &board)?;
-    let found = cuts_of(alloc, board, cpu, trace, pattern.bytes)?;
-    Ok(findings_by(&start, &trace.board, cpu, found, refused, one))
+    let found = findings_on(alloc, board, cpu, trace, script, pattern)?;
+    let report = report_of(alloc, &found)?;
+    let unmet = unmet(ask, &report);
+    let text = check_text(alloc, &found, unmet.as_slice())?;
+    Ok(ended(alloc, status_of(verdict_on(ask, &report)), text))
 }
 
-/// The work of `check` on a powered board of which no cut is armed, a script and a pattern. It
-/// tells the eight lines, with the status. Where the script completes too many steps, it refuses
-/// the script by its word. It fails only where memory is out.
+/// The work of `check` by what a team asks of an update, on a powered board of which no cut is
+/// armed, a script and a pattern. It tells the lines of what is found and of what is not met, with
+/// the status of the verdict. Where the script completes too many steps, it refuses the script by
+/// its word. It fails only where memory is out.
+pub fn check_asked<'a>(
+    alloc: Global,
+    board: MemBoard,
+    cpu: Cpu,
+    name: &str,
+    script: Script<'_>,
+    pattern: Pattern<'_>,
+    ask: &Require,
+) -> Result<Answer<'a>, AllocError>
+    requires ready { IsUnarmed (state_of board) }
+    ensures { IfOk result (λ answer. answer_from answer ≡ worked (check_work
+        (state_of board).content cpu name.now script.entry.bytes.now
+        pattern.entry.bytes.now (require_from ask.now))) }
+{
+    let copy = copy_of(alloc, &board)?;
+    match trace_on(alloc, copy, cpu, &script)? {
+        Some(trace) => judged(alloc, &board, cpu, &trace, &script, pattern, ask),
+        None => refusal(alloc, name, "too-many-steps"),
+    }
+}
+
+/// The work of `check` where a team says nothing of what it asks.
 pub fn check<'a>(
     alloc: Global,
     board: MemBoard,
@@ -100,15 +97,8 @@ pub fn check<'a>(
     requires ready { IsUnarmed (state_of board) }
     ensures { IfOk result (λ answer. answer_from answer ≡ worked (check_work
         (state_of board).content cpu name.now script.entry.bytes.now
-        pattern.entry.bytes.now)) }
+        pattern.entry.bytes.now default_require)) }
 {
-    let copy = copy_of(alloc, &board)?;
-    match trace_on(alloc, copy, cpu, &script)? {
-        Some(trace) => {
-            let findings = findings_on(alloc, board, cpu, &trace, &script, pattern)?;
-            let text = findings_text(alloc, &findings)?;
-            Ok(ended(alloc, verdict(&findings), text))
-        }
-        None => refusal(alloc, name, "too-many-steps"),
-    }
+    let ask = default_require(alloc)?;
+    check_asked(alloc, board, cpu, name, script, pattern, &ask)
 }

@@ -1,20 +1,20 @@
-//! The work of `check`: whether an update does what it is for, whatever supply is lost in it.
+//! The work of `check`: whether an update does what it is for, whatever supply is lost in it, and
+//! whether it meets what a team asks of it.
 //!
-//! `specs/CheckRules` says what is right for the command, and `specs/Findings` has its lines and
-//! the verdict. `specs/SessionLaws` says which law holds of every torn content, and
-//! `specs/Records` which records did nothing. The trace of a script, its cuts and their classes
-//! are those of `boot_cuts`.
+//! `specs/Findings` has what is found of a script, as functions of the crates that find it, and
+//! `specs/FindingRules` has it in the words of the rules. `specs/Reporting` says what of it a member
+//! of the text looks at, `specs/CheckTexts` has the lines, `specs/CheckWorks` the work as a function
+//! and `specs/CheckRules` what is right for the command.
 #![tactic(auto)]
 
 mod checking;
-mod counting;
 pub mod examples;
+mod finding;
 mod findings;
 pub mod laws;
 mod lines;
-mod records;
-mod serving;
-mod sessions;
+mod names;
+mod reporting;
 
-pub use checking::check;
-pub use findings::{CutCounts, Findings, SessionLaw};
+pub use checking::{check, check_asked};
+pub use findings::{Findings, ImagesFound, LawsFound};

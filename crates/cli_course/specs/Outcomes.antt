@@ -4,7 +4,7 @@ use Rattle.pico_board.specs.Files.{File, file_of}
 -- a line ends with one line feed
 pub use Rattle.text_words.specs.Writing.{line}
 use Rattle.cli_course.specs.declared.status.Status.{Status}
-use Rattle.cli_course.specs.declared.status.Status.TheVariants.{Done, Words, Input, Bootsel, ReadFault, WriteFault, OutputFault, Memory, Unbootable, Mixed, NoEffect, Refused}
+use Rattle.cli_course.specs.declared.status.Status.TheVariants.{Done, Words, Input, Bootsel, ReadFault, WriteFault, OutputFault, Memory, Unbootable, Mixed, NoEffect, Refused, Unmet}
 
 -- an input file: its name, and the greatest length of a file that is read whole, in bytes
 pub record LimitedInputView : Type 0 where
@@ -26,15 +26,16 @@ pub record AnswerView : Type 0 where
   pub text : List ℕ
   pub files : List File
 
--- What is found of the losses of power in a script: all is well; some loss leaves nothing to
--- start; after some loss an image starts that is neither the former nor the finished one; the
--- script has no effect; a record of it did nothing.
+-- What is found of a script, by what is asked of it: all is well; some loss of power leaves nothing
+-- to start; after some loss a half-written image starts; the script does not do what it is for; a
+-- record of it did nothing; something else is not met.
 pub data Verdict : Type 0 where
   Passes : Verdict
   IsUnbootable : Verdict
   IsMixed : Verdict
   HasNoEffect : Verdict
   IsRefused : Verdict
+  IsUnmet : Verdict
 
 -- The result of a command's work on the bytes of its inputs. The work answers whether a boot falls
 -- to BOOTSEL, the text, and the files to write, in the order of the arguments. Or it refuses an
@@ -72,6 +73,7 @@ verdict_status IsUnbootable = Unbootable
 verdict_status IsMixed = Mixed
 verdict_status HasNoEffect = NoEffect
 verdict_status IsRefused = Refused
+verdict_status IsUnmet = Unmet
 
 -- a text that is printed with a status; no file is written
 abbrev pub ended : Status → List ℕ → AnswerView
@@ -114,4 +116,5 @@ is_finished Unbootable = true
 is_finished Mixed = true
 is_finished NoEffect = true
 is_finished Refused = true
+is_finished Unmet = true
 is_finished _ = false

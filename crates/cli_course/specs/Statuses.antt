@@ -1,7 +1,7 @@
 -- The numbers with which the program ends.
 use Rattle.std.specs.Prelude.{ℕ}
 use Rattle.cli_course.specs.declared.status.Status.{Status}
-use Rattle.cli_course.specs.declared.status.Status.TheVariants.{Done, Words, Input, Bootsel, ReadFault, WriteFault, OutputFault, Memory, Unbootable, Mixed, NoEffect, Refused}
+use Rattle.cli_course.specs.declared.status.Status.TheVariants.{Done, Words, Input, Bootsel, ReadFault, WriteFault, OutputFault, Memory, Unbootable, Mixed, NoEffect, Refused, Unmet}
 
 -- the exit status of the program
 abbrev pub exit_status : Status → ℕ
@@ -17,3 +17,4 @@ exit_status Unbootable = 8
 exit_status Mixed = 9
 exit_status NoEffect = 10
 exit_status Refused = 11
+exit_status Unmet = 12

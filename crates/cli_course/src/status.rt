@@ -26,10 +26,12 @@ pub enum Status {
     /// Some loss of power, or the whole script, starts an image that stood whole neither before
     /// nor at the end.
     Mixed,
-    /// An update changes nothing that a boot starts.
+    /// An update does not do what it is for.
     NoEffect,
     /// A record of an update did nothing.
     Refused,
+    /// Something else that is asked of an update is not met.
+    Unmet,
 }
 
 impl Status {

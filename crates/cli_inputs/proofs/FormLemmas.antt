@@ -4,10 +4,11 @@ use Rattle.std.proofs.lemmas.Bool.{ltb-true, ltb-false, lt-ltb, le-ltb, eqb-true
 use Rattle.std.proofs.lemmas.List.Elements.{All-cons, All-head, All-tail}
 use Rattle.pico_board.specs.Rows.{IsFirstWide}
 use Rattle.cli_inputs.specs.declared.forms.Form.{Form}
-use Rattle.cli_inputs.specs.declared.forms.Form.TheVariants.{Flash, Otp, Script, Pattern, Binary, Spec, Json, OtpText, Image, SourceImage, Elf, Uf2, Text}
+use Rattle.cli_inputs.specs.declared.forms.Form.TheVariants.{Flash, Otp, Script, Pattern, Require, Binary, Spec, Json, OtpText, Image, SourceImage, Elf, Uf2, Text}
 use Rattle.text_words.specs.Writing.{hex_row}
 use Rattle.cli_inputs.specs.Forms.{limit_of, rows_of, HasForm, AreWholeUf2Blocks, uf2_fault, IsOwnFault, IsFormFault, wide_from, otp_fault, own_fault, form_fault}
 use Rattle.cli_inputs.proofs.JsonLemmas.{spec-formed, spec-faulty, spec-exact, spec-apart, table-formed, table-faulty, table-exact, table-apart, otp-formed as otp-text_formed, otp-text_faulty, otp-text_exact, otp-text_apart}
+use Rattle.cli_inputs.proofs.AskLemmas.{ask-apart, ask-exact, ask-faulty, ask-formed}
 use Rattle.cli_inputs.proofs.ScriptLemmas.{script-none, script-faulty, script-apart, script-exact}
 
 abbrev pub IsNarrow : List ℕ → Type 0
@@ -153,6 +154,7 @@ own-formed Binary bytes few h = few
 own-formed Spec bytes few h = (few, spec-formed bytes h)
 own-formed Json bytes few h = (few, table-formed bytes h)
 own-formed OtpText bytes few h = (few, otp-text_formed bytes h)
+own-formed Require bytes few h = (few, ask-formed bytes h)
 own-formed Image bytes few h = few
 own-formed Elf bytes few h = few
 own-formed Uf2 bytes few h = (few, uf2-formed bytes h)
@@ -171,6 +173,7 @@ own-faulty Binary bytes fault h = cc
 own-faulty Spec bytes fault h = spec-faulty bytes fault h
 own-faulty Json bytes fault h = table-faulty bytes fault h
 own-faulty OtpText bytes fault h = otp-text_faulty bytes fault h
+own-faulty Require bytes fault h = ask-faulty bytes fault h
 own-faulty Image bytes fault h = cc
 own-faulty Elf bytes fault h = cc
 own-faulty Uf2 bytes fault h = uf2-faulty bytes fault h
@@ -216,6 +219,8 @@ form-apart Json bytes fault form (inl large) = let few = form.0 in let many = la
 form-apart Json bytes fault form (inr (few, own)) = table-apart bytes fault form.1.0 form.1.1 own
 form-apart OtpText bytes fault form (inl large) = let few = form.0 in let many = large.0 in omega arith
 form-apart OtpText bytes fault form (inr (few, own)) = otp-text_apart bytes fault form.1.0 form.1.1 own
+form-apart Require bytes fault form (inl large) = let few = form.0 in let many = large.0 in omega arith
+form-apart Require bytes fault form (inr (few, own)) = ask-apart bytes fault form.1.0 form.1.1 own
 form-apart Image bytes fault form (inl large) = let few = form in let many = large.0 in omega arith
 form-apart Elf bytes fault form (inl large) = let few = form in let many = large.0 in omega arith
 form-apart Uf2 bytes fault form (inl large) = let few = form.0 in let many = large.0 in omega arith
@@ -251,6 +256,7 @@ own-exact Binary bytes fault own = absurd own
 own-exact Spec bytes fault own = spec-exact bytes fault own
 own-exact Json bytes fault own = table-exact bytes fault own
 own-exact OtpText bytes fault own = otp-text_exact bytes fault own
+own-exact Require bytes fault own = ask-exact bytes fault own
 own-exact Image bytes fault own = absurd own
 own-exact Elf bytes fault own = absurd own
 own-exact Uf2 bytes fault own = uf2-exact bytes fault own

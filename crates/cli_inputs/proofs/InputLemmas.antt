@@ -4,8 +4,8 @@ use Rattle.std.specs.Option.{option_or}
 use Rattle.std.proofs.lemmas.Bool.{lt-ltb, cases_lt}
 use Rattle.std.proofs.lemmas.List.{take_all, length-take, length-map}
 use Rattle.cli_course.specs.declared.status.Status.{Status}
-use Rattle.cli_course.specs.declared.status.Status.TheVariants.{Done, Words, Input as Refused, Bootsel, Unbootable, Mixed, NoEffect, Refused as RecordRefused}
-use Rattle.cli_course.specs.Outcomes.{AnswerView, Work, Answers, Refuses, Judges, Passes, IsUnbootable, IsMixed, HasNoEffect, IsRefused, refused, worked, is_finished}
+use Rattle.cli_course.specs.declared.status.Status.TheVariants.{Done, Words, Input as Refused, Bootsel, Unbootable, Mixed, NoEffect, Refused as RecordRefused, Unmet}
+use Rattle.cli_course.specs.Outcomes.{AnswerView, Work, Answers, Refuses, Judges, Passes, IsUnbootable, IsMixed, HasNoEffect, IsRefused, IsUnmet, refused, worked, is_finished}
 use Rattle.cli_course.specs.Ends.{cut}
 use Rattle.cli_inputs.specs.declared.forms.Form.{Form}
 use Rattle.cli_inputs.specs.Forms.{HasForm, limit_of, own_fault, form_fault}
@@ -106,6 +106,7 @@ worked-text (Judges IsUnbootable text) = (refl, λ (e : Unbootable ≡ Words). c
 worked-text (Judges IsMixed text) = (refl, λ (e : Mixed ≡ Words). cc)
 worked-text (Judges HasNoEffect text) = (refl, λ (e : NoEffect ≡ Words). cc)
 worked-text (Judges IsRefused text) = (refl, λ (e : RecordRefused ≡ Words). cc)
+worked-text (Judges IsUnmet text) = (refl, λ (e : Unmet ≡ Words). cc)
 
 refused-text : (status : Status) → status ≡ Refused → IsText status
 refused-text status is = (ap is_finished is, λ h. let e : Refused ≡ Words = sym is ∙ h in cc)

@@ -2,6 +2,7 @@ mod RowLemmas
 mod BoardLemmas
 mod PoolLemmas
 pub mod JsonLemmas
+pub mod AskLemmas
 pub mod ScriptLemmas
 pub mod FormLemmas
 pub mod ContentLemmas

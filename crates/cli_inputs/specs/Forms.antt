@@ -8,13 +8,16 @@ use Rattle.boot_script.specs.declared.event.ScriptError.{ScriptError}
 use Rattle.boot_script.specs.declared.event.ScriptError.TheVariants.{TooLarge, Record, TooMany}
 use Rattle.boot_script.specs.declared.limits.TheConstants.{SCRIPT_LIMIT}
 use Rattle.boot_script.specs.Judging.{IsScript, IsScriptError, script_error}
+use Rattle.check_require.specs.Requires.{RequireView}
+use Rattle.check_require.specs.Texts.{IsRequireText, require_read}
 use Rattle.cli_inputs.specs.declared.forms.Form.{Form}
-use Rattle.cli_inputs.specs.declared.forms.Form.TheVariants.{Flash, Otp, Script, Pattern, Binary, Spec, Json, OtpText, Image, SourceImage, Elf, Uf2, Text}
+use Rattle.cli_inputs.specs.declared.forms.Form.TheVariants.{Flash, Otp, Script, Pattern, Require, Binary, Spec, Json, OtpText, Image, SourceImage, Elf, Uf2, Text}
 use Rattle.cli_inputs.specs.declared.limits.TheConstants.{FLASH_LIMIT, OTP_LIMIT, PATTERN_LIMIT, BINARY_LIMIT, JSON_LIMIT, IMAGE_LIMIT, ELF_LIMIT, UF2_LIMIT, TEXT_LIMIT}
 use Rattle.image_pack.specs.declared.spec.SealSpec.{SealSpec}
 use Rattle.part_table.specs.declared.table.Table.{Table}
 use Rattle.table_json.specs.Otps.{OtpView}
 use Rattle.text_words.specs.Writing.{hex_row}
+use Rattle.cli_inputs.specs.Asks.{IsAskFault, ask_fault}
 use Rattle.cli_inputs.specs.Jsons.{IsSpecText, IsTableText, IsOtpText, IsSpecFault, IsTableFault, IsOtpFault, IsTextFault, spec_read, table_read, otp_read, read_fault}
 
 -- why bytes are no script, by the offset of the first faulty record where there is one
@@ -31,6 +34,7 @@ limit_of Flash = FLASH_LIMIT
 limit_of Otp = OTP_LIMIT
 limit_of Script = SCRIPT_LIMIT
 limit_of Pattern = PATTERN_LIMIT
+limit_of Require = JSON_LIMIT
 limit_of Binary = BINARY_LIMIT
 limit_of Spec = JSON_LIMIT
 limit_of Json = JSON_LIMIT
@@ -54,7 +58,7 @@ AreWholeUf2Blocks bytes = (bytes ≢ []) × (length bytes % 512 ≡ 0)
 -- - an OTP file is of whole rows of 24 bits
 -- - a script has an end among its first records, with no fault before the end
 -- - a pattern is not empty
--- - a JSON text gives a spec, a table or an OTP
+-- - a JSON text gives a spec, a table, an OTP or what is asked of an update
 -- - a UF2 file is of whole blocks
 -- - no file is too long; a binary, an image, an ELF file and the text of a script have no other
 --   condition
@@ -68,6 +72,8 @@ HasForm SourceImage bytes = (bytes ≢ []) × (length bytes ≤ IMAGE_LIMIT)
 HasForm Spec bytes = (length bytes ≤ JSON_LIMIT) × ((spec : SealSpec) × IsSpecText bytes spec)
 HasForm Json bytes = (length bytes ≤ JSON_LIMIT) × ((table : Table) × IsTableText bytes table)
 HasForm OtpText bytes = (length bytes ≤ JSON_LIMIT) × ((spec : OtpView) × IsOtpText bytes spec)
+HasForm Require bytes =
+    (length bytes ≤ JSON_LIMIT) × ((ask : RequireView) × IsRequireText bytes ask)
 HasForm Uf2 bytes = (length bytes ≤ UF2_LIMIT) × AreWholeUf2Blocks bytes
 HasForm form bytes = length bytes ≤ limit_of form
 
@@ -81,7 +87,8 @@ IsTooLarge form bytes fault = (limit_of form < length bytes) × (fault ≡ codes
 --   is named
 -- - a script has a fault among its first records, or these have neither a fault nor an end
 -- - a pattern is empty
--- - a JSON text has the first fault by the rules of a spec, a table or an OTP
+-- - a JSON text has the first fault by the rules of a spec, a table, an OTP or what is asked of an
+--   update
 -- - a UF2 file is not of whole blocks
 -- - a binary, an image, an ELF file and a text have no fault
 abbrev pub IsOwnFault : Form → List ℕ → List ℕ → Type 0
@@ -97,6 +104,7 @@ IsOwnFault SourceImage bytes fault = (bytes ≡ []) × (fault ≡ codes "empty")
 IsOwnFault Spec bytes fault = IsTextFault IsSpecFault bytes fault
 IsOwnFault Json bytes fault = IsTextFault IsTableFault bytes fault
 IsOwnFault OtpText bytes fault = IsTextFault IsOtpFault bytes fault
+IsOwnFault Require bytes fault = IsAskFault bytes fault
 IsOwnFault Uf2 bytes fault = (AreWholeUf2Blocks bytes → ⊥) × (fault ≡ codes "uf2-length")
 IsOwnFault _ bytes fault = ⊥
 
@@ -136,6 +144,7 @@ own_fault SourceImage (b ∷ bytes) = None
 own_fault Spec bytes = read_fault (spec_read bytes)
 own_fault Json bytes = read_fault (table_read bytes)
 own_fault OtpText bytes = read_fault (otp_read bytes)
+own_fault Require bytes = ask_fault (require_read bytes)
 own_fault Uf2 bytes = uf2_fault bytes
 own_fault _ bytes = None
 

@@ -20,6 +20,8 @@ pub enum Form {
     Script,
     /// The bytes that a cut within a step leaves.
     Pattern,
+    /// The JSON text of what is asked of an update.
+    Require,
     /// Any bytes; an image is made of them.
     Binary,
     /// The JSON text of the spec of a sealed image.
@@ -51,7 +53,7 @@ impl Form {
             Form::Script => SCRIPT_LIMIT,
             Form::Pattern => PATTERN_LIMIT,
             Form::Binary => BINARY_LIMIT,
-            Form::Spec | Form::Json | Form::OtpText => JSON_LIMIT,
+            Form::Spec | Form::Json | Form::OtpText | Form::Require => JSON_LIMIT,
             Form::Image | Form::SourceImage => IMAGE_LIMIT,
             Form::Elf => ELF_LIMIT,
             Form::Uf2 => UF2_LIMIT,

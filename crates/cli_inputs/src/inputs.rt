@@ -87,3 +87,18 @@ pub fn four(files: Vec<Vec<u8>>) -> (Vec<u8>, Vec<u8>, Vec<u8>, Vec<u8>)
     let fourth = files.next().unwrap();
     (first, second, third, fourth)
 }
+
+/// The files of five inputs.
+pub fn five(files: Vec<Vec<u8>>) -> (Vec<u8>, Vec<u8>, Vec<u8>, Vec<u8>, Vec<u8>)
+    requires { length files.items ≡ 5 }
+    ensures { bytes_of_files files.items ≡ (result.0.items ∷ result.1.items ∷ result.2.items
+        ∷ result.3.items ∷ result.4.items ∷ []) }
+{
+    let mut files = files.into_iter();
+    let first = files.next().unwrap();
+    let second = files.next().unwrap();
+    let third = files.next().unwrap();
+    let fourth = files.next().unwrap();
+    let fifth = files.next().unwrap();
+    (first, second, third, fourth, fifth)
+}

@@ -4,6 +4,7 @@
 //! its own.
 #![tactic(auto)]
 
+mod asks;
 mod boards;
 pub mod examples;
 mod fail;
@@ -16,6 +17,7 @@ mod limits;
 mod pool;
 mod values;
 
+pub use asks::read_require;
 pub use boards::{lone_board, read_board};
 pub use boot_script::{RECORD_LIMIT, SCRIPT_LIMIT};
 pub use fail::InputFail;
@@ -23,7 +25,7 @@ pub use files::{
     read_binary, read_elf, read_image, read_pattern, read_script, read_source, read_text, read_uf2,
 };
 pub use forms::Form;
-pub use inputs::{FormInput, four, one, readings, three, two};
+pub use inputs::{FormInput, five, four, one, readings, three, two};
 pub use json::{read_otp, read_spec, read_table, table_fault_text};
 pub use limits::{
     BINARY_LIMIT, ELF_LIMIT, FLASH_LIMIT, IMAGE_LIMIT, JSON_LIMIT, OTP_LIMIT, PATTERN_LIMIT,

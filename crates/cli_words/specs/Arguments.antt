@@ -1,7 +1,7 @@
 -- The kinds of arguments: what the usage calls each, and its lines on it.
 use Rattle.std.specs.Prelude.{ℕ, List, codes}
 use Rattle.cli_words.specs.declared.arguments.Word.{Word}
-use Rattle.cli_words.specs.declared.arguments.Word.TheVariants.{Binary, Command, Cpu, Elf, Family, Flash, Image, Json, Kind, Number, Otp, OtpJson, Out, OutFlash, OutOtp, Pattern, Script, SourceImage, Spec, Text, Uf2}
+use Rattle.cli_words.specs.declared.arguments.Word.TheVariants.{Binary, Command, Cpu, Elf, Family, Flash, Image, Json, Kind, Number, Otp, OtpJson, Out, OutFlash, OutOtp, Pattern, Require, Script, SourceImage, Spec, Text, Uf2}
 
 -- what the usage calls an argument
 abbrev pub word_name : Word → List ℕ
@@ -11,6 +11,7 @@ word_name Flash = codes "FLASH"
 word_name Otp = codes "OTP"
 word_name Script = codes "SCRIPT"
 word_name Pattern = codes "PATTERN"
+word_name Require = codes "REQUIRE"
 word_name OutFlash = codes "OUTFLASH"
 word_name OutOtp = codes "OUTOTP"
 word_name Binary = codes "BIN"
@@ -32,6 +33,11 @@ abbrev pub json_note : List ℕ
 json_note =
     codes "JSON    a JSON text of at most 65536 bytes: for table version, singleton, unpartitioned and\n        partitions; for otp rollback_required, flash_off, slot_size, rows and secure_boot\n"
 
+-- the lines of the usage on what is asked of an update
+abbrev pub require_note : List ℕ
+require_note =
+    codes "REQUIRE  a JSON text of at most 65536 bytes, of what is asked of an update: effect, records, written,\n        keep, data, cuts, version, fallback, again, covered, hash, no_rows, session, boot, buy, caveats\n"
+
 -- the line of the usage on an image
 abbrev pub image_note : List ℕ
 image_note =
@@ -50,6 +56,7 @@ word_note Script =
     codes "SCRIPT  a file of at most 67108864 bytes, with an end among its first 524288 records\n"
 word_note Pattern =
     codes "PATTERN  a file of 1 to 4096 bytes, which a loss of power within a step leaves, repeated\n"
+word_note Require = require_note
 word_note OutFlash = codes "OUTFLASH  a file to write: the whole flash\n"
 word_note OutOtp = codes "OUTOTP  a file to write: all 4096 rows, 4 bytes each\n"
 word_note Binary =

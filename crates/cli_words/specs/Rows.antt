@@ -14,7 +14,7 @@ use Rattle.cli_words.specs.declared.rows.TheConstants.{VERBS}
 use Rattle.cli_words.specs.declared.rows.Verb.{Verb}
 use Rattle.cli_words.specs.declared.rows.Verb.TheVariants as verbs
 use Rattle.cli_words.specs.declared.arguments.Word.{Word}
-use Rattle.cli_words.specs.declared.arguments.Word.TheVariants.{Binary, Command, Cpu, Elf, Family, Flash, Image, Json, Kind, Number, Otp, OtpJson, Out, OutFlash, OutOtp, Pattern, Script, SourceImage, Spec, Text, Uf2}
+use Rattle.cli_words.specs.declared.arguments.Word.TheVariants.{Binary, Command, Cpu, Elf, Family, Flash, Image, Json, Kind, Number, Otp, OtpJson, Out, OutFlash, OutOtp, Pattern, Require, Script, SourceImage, Spec, Text, Uf2}
 use Rattle.cli_words.specs.declared.rows.CommandLine.{CommandLine}
 use Rattle.cli_words.specs.declared.rows.Row.{Row}
 
@@ -55,6 +55,9 @@ row_of verbs.Cuts = row (codes "cuts") (Flash ∷ Otp ∷ Cpu ∷ Script ∷ Pat
     (codes "what a boot makes of each loss of power in any script")
 row_of verbs.Check = row (codes "check") (Flash ∷ Otp ∷ Cpu ∷ Script ∷ Pattern ∷ [])
     (codes "whether a script does what an update is for")
+row_of verbs.CheckAsked =
+    row (codes "check") (Flash ∷ Otp ∷ Cpu ∷ Script ∷ Pattern ∷ Require ∷ [])
+    (codes "the same, by what a team asks of an update")
 row_of verbs.Seal = row (codes "seal") (Binary ∷ Spec ∷ Out ∷ [])
     (codes "the sealed image of a binary: with a version, a load map and a digest")
 row_of verbs.Elf = row (codes "elf") (Elf ∷ Spec ∷ Out ∷ [])
@@ -101,6 +104,7 @@ with_word Kind word v = option_map (λ kind. record v { kind = kind }) (boot_kin
 with_word Flash word v = Some (record v { flash = word })
 with_word Otp word v = Some (record v { otp = word })
 with_word Pattern word v = Some (record v { pattern = word })
+with_word Require word v = Some (record v { require = word })
 with_word Spec word v = Some (record v { spec = word })
 with_word SourceImage word v = Some (record v { image = word })
 with_word OutFlash word v = Some (record v { out_flash = word })

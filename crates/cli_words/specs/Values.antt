@@ -15,6 +15,7 @@ pub record ValuesView : Type 0 where
   pub otp : List ℕ
   pub file : List ℕ
   pub pattern : List ℕ
+  pub require : List ℕ
   pub spec : List ℕ
   pub image : List ℕ
   pub out_flash : List ℕ
@@ -33,6 +34,7 @@ no_values = record {
   otp = [];
   file = [];
   pattern = [];
+  require = [];
   spec = [];
   image = [];
   out_flash = [];
@@ -52,6 +54,7 @@ values_from v = record {
   otp = v.otp.now;
   file = v.file.now;
   pattern = v.pattern.now;
+  require = v.require.now;
   spec = v.spec.now;
   image = v.image.now;
   out_flash = v.out_flash.now;

@@ -18,6 +18,8 @@ pub enum Word {
     Script,
     /// The bytes that a cut within a step leaves.
     Pattern,
+    /// The JSON text of what is asked of an update.
+    Require,
     /// The flash that is left.
     OutFlash,
     /// The OTP that is left.
@@ -62,6 +64,7 @@ impl Word {
             Word::Otp => "OTP",
             Word::Script => "SCRIPT",
             Word::Pattern => "PATTERN",
+            Word::Require => "REQUIRE",
             Word::OutFlash => "OUTFLASH",
             Word::OutOtp => "OUTOTP",
             Word::Binary => "BIN",
@@ -94,6 +97,9 @@ impl Word {
                 "SCRIPT  a file of at most 67108864 bytes, with an end among its first 524288 records\n",
             Word::Pattern =>
                 "PATTERN  a file of 1 to 4096 bytes, which a loss of power within a step leaves, repeated\n",
+            Word::Require =>
+                "REQUIRE  a JSON text of at most 65536 bytes, of what is asked of an update: effect, records, written,
+        keep, data, cuts, version, fallback, again, covered, hash, no_rows, session, boot, buy, caveats\n",
             Word::OutFlash => "OUTFLASH  a file to write: the whole flash\n",
             Word::OutOtp => "OUTOTP  a file to write: all 4096 rows, 4 bytes each\n",
             Word::Binary =>
@@ -125,13 +131,14 @@ impl Word {
 
 /// The arguments on which the usage has lines, in its order. That of an OTP's text stands with the
 /// one of a table.
-pub const WORDS: [Word; 19] = [
+pub const WORDS: [Word; 20] = [
     Word::Cpu,
     Word::Kind,
     Word::Flash,
     Word::Otp,
     Word::Script,
     Word::Pattern,
+    Word::Require,
     Word::OutFlash,
     Word::OutOtp,
     Word::Binary,

@@ -6,7 +6,7 @@ ghost use Rattle.cli_words.specs.Rows.{command_from, command_of, first_command, 
 
 use crate::arguments::Word::{
     self, Binary, Command, Cpu, Elf, Family, Flash, Image, Json, Kind, Number, Otp, OtpJson, Out,
-    OutFlash, OutOtp, Pattern, Script, SourceImage, Spec, Text, Uf2,
+    OutFlash, OutOtp, Pattern, Require, Script, SourceImage, Spec, Text, Uf2,
 };
 use crate::values::{Values, row_values};
 
@@ -35,6 +35,8 @@ pub enum Verb {
     Cuts,
     /// Whether an update does what it is for, whatever power is lost in it.
     Check,
+    /// Whether an update meets what is asked of it.
+    CheckAsked,
     /// The sealed image of a binary.
     Seal,
     /// The sealed image of an ELF file.
@@ -147,6 +149,11 @@ impl Verb {
                 words: &[Flash, Otp, Cpu, Script, Pattern],
                 does: "whether a script does what an update is for",
             },
+            Verb::CheckAsked => Row {
+                name: "check",
+                words: &[Flash, Otp, Cpu, Script, Pattern, Require],
+                does: "the same, by what a team asks of an update",
+            },
             Verb::Seal => Row {
                 name: "seal",
                 words: &[Binary, Spec, Out],
@@ -247,7 +254,7 @@ impl Verb {
 }
 
 /// The rows, in the order of the usage.
-pub const VERBS: [Verb; 30] = [
+pub const VERBS: [Verb; 31] = [
     Verb::Boot,
     Verb::Info,
     Verb::OwnedData,
@@ -259,6 +266,7 @@ pub const VERBS: [Verb; 30] = [
     Verb::Chart,
     Verb::Cuts,
     Verb::Check,
+    Verb::CheckAsked,
     Verb::Seal,
     Verb::Elf,
     Verb::Firm,

@@ -18,10 +18,9 @@ pub const STATUSES: &str =
     "Status 0 means that the text is whole, 1 that the words are no command, 2 that an input is refused,
 3 that the boot falls to BOOTSEL, 4 that a file could not be read, 5 that a file could not be
 written, 6 that standard output failed, and 7 that there was no memory. cuts and check end with 8
-where some loss of power, or the whole script, leaves nothing to start. cuts ends with 9 where one
-starts a half-written image, and check where one starts an image that is neither the former nor the
-finished one. check ends with 11 where a record of the script did nothing, and with 10 where the
-script has no effect.
+where some loss of power, or the whole script, leaves nothing to start, and with 9 where one starts
+a half-written image. check ends with 11 where a record of the script did nothing, with 10 where the
+script does not do what it is for, and with 12 where something else is not met that is asked of it.
 ";
 
 /// The arguments of a row after its name, each after a blank.

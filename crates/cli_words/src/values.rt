@@ -28,6 +28,8 @@ pub struct Values<'a> {
     pub file: &'a str,
     /// The name of the file whose bytes a cut within a step leaves.
     pub pattern: &'a str,
+    /// The name of the text that says what is asked of an update.
+    pub require: &'a str,
     /// The name of the text that says what an image is asked to be.
     pub spec: &'a str,
     /// The name of the image of which a script takes bytes.
@@ -58,6 +60,7 @@ impl<'a> Values<'a> {
             otp: "",
             file: "",
             pattern: "",
+            require: "",
             spec: "",
             image: "",
             out_flash: "",
@@ -119,6 +122,7 @@ fn with_word<'a>(kind: Word, word: &'a str, values: Values<'a>) -> Option<Values
         Word::Flash => values.flash = word,
         Word::Otp => values.otp = word,
         Word::Pattern => values.pattern = word,
+        Word::Require => values.require = word,
         Word::Spec => values.spec = word,
         Word::SourceImage => values.image = word,
         Word::OutFlash => values.out_flash = word,

@@ -1,10 +1,10 @@
-mod LeftRowLemmas
+pub mod LeftRowLemmas
 pub mod LeftImageLemmas
 pub mod RaisesCutLemmas
 mod PairLemmas
 mod OwnStepLemmas
 mod OwnWindowLemmas
-mod OwnLeftLemmas
+pub mod OwnLeftLemmas
 mod OwnPickLemmas
 pub mod OwnDecisionLemmas
 pub mod OwnLaws

@@ -18,7 +18,6 @@ use Rattle.boot_rules.specs.declared.decision.Decision.{Decision}
 use Rattle.boot_rules.specs.declared.decision.Decision.TheVariants.{Start, Bootsel}
 use Rattle.boot_rules.specs.Choosing.{decision_in}
 use Rattle.boot_rules.specs.Chosen.{Chosen}
-use Rattle.boot_rules.specs.Tables.{table_in}
 use Rattle.boot_rules.proofs.DecisionLemmas.{decision-chosen}
 use Rattle.boot_script.specs.Events.{EventView}
 use Rattle.boot_session.specs.CutSessions.{StartsFinished, StartsOutside}
@@ -87,7 +86,7 @@ module _ (c : Content) (cpu : Cpu) (events : List EventView) (w : Window) (is : 
   -- the script leaves what its steps do
   leads : z ≡ after_all c steps
   leads =
-      let one = is.keeps.session in
+      let one = is.session in
       last-is c cpu events one
       ∙ ap (after_all c) (sym (ap (λ ts. trace_steps ts) (trace-is c cpu events one) ∙ steps-of c (session c cpu events)))
 
@@ -96,22 +95,22 @@ module _ (c : Content) (cpu : Cpu) (events : List EventView) (w : Window) (is : 
   not-free no_accident =
       elim (gated-decision c w cpu steps d (decision_in c cpu Normal) (record {
         right = is.right;
-        boot_member = is.keeps.slot.boot_member;
+        boot_member = is.holds.keeps.slot.boot_member;
         gated = is.gated;
         cut = cut;
         former = decision-chosen c cpu Normal;
-        elsewhere = outside c cpu w is.keeps.elsewhere (decision_in c cpu Normal) (decision-chosen c cpu Normal);
-        table = sym (ap table_in leads) ∙ is.keeps.table;
+        elsewhere = outside c cpu w is.holds.elsewhere (decision_in c cpu Normal) (decision-chosen c cpu Normal);
+        table = is.holds.table;
         no_accident = no_accident;
       })) [
         | inl former ↦
             not-former (decides-former c d cpu
-            (keeps-former c w cpu d is.right is.keeps.slot.boot_member is.keeps.elsewhere
-            (confined-CutOf c w steps d is.keeps.confined cut))
+            (keeps-former c w cpu d is.right is.holds.keeps.slot.boot_member is.holds.elsewhere
+            (confined-CutOf c w steps d is.holds.keeps.confined cut))
             (decision_in c cpu Normal, decision-chosen c cpu Normal, former))
         | inr finished ↦
             not-finished (starts-finished z moves d cpu
-            (all-mended c cpu events is.keeps.session) (subst (λ x. StartsFinished x d cpu) (sym leads) finished))
+            (all-mended c cpu events is.session) (subst (λ x. StartsFinished x d cpu) (sym leads) finished))
       ]
 
   pub accident-is : IsAccident c cpu events w d
@@ -132,7 +131,7 @@ pub cut-of-script : (c : Content) (cpu : Cpu) (events : List EventView) (pattern
     → slice_get (cut_contents pattern (trace c cpu events).done) n ≡ Some d
     → CutOf c (trace_steps (trace c cpu events).done) d
 cut-of-script c cpu events pattern w n d small is at =
-    let one = is.keeps.session in
+    let one = is.session in
     let trace_is = trace-is c cpu events one in
     subst (λ ts. CutOf c (trace_steps ts) d) (sym trace_is)
     (subst (λ xs. CutOf c xs d) (sym (steps-of c (session c cpu events)))

@@ -34,7 +34,7 @@ use Rattle.boot_session.proofs.GatedLaws.{gated-table}
 use Rattle.boot_sweep.specs.declared.error.SweepError.{SweepError}
 use Rattle.boot_sweep.specs.Refusals.{IsRefusedSession, StartsIn, sweep_refusal}
 use Rattle.boot_sweep.proofs.RefusalCaseLemmas.{refused-exactly}
-use Rattle.cli_check.specs.Sessions.{is_one_session}
+use Rattle.law_cuts.specs.Sessions.{is_one_session}
 use Rattle.worked_flashes.specs.Choices.{small_finished, small_former, small_slot}
 use Rattle.worked_flashes.specs.Flashes.{arm_slot, bare_slot, beside_small, block_page, vector_page}
 use Rattle.worked_flashes.specs.Writes.{longer_steps}

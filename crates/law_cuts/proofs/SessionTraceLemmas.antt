@@ -28,7 +28,9 @@ use Rattle.boot_tape.specs.CutMoves.{cut_moves}
 use Rattle.boot_cuts.specs.Tears.{IsLeftTorn, is_left_torn, left_torn}
 use Rattle.boot_tape.specs.Traces.{Traced, completed, event_moves, event_steps, moves_in, traced, traced_from}
 use Rattle.boot_cuts.proofs.TearLemmas.{torn-exactly}
-use Rattle.cli_check.specs.Sessions.{Closing, closes_quietly, closing, ends_quietly, hosted_events, is_empty, is_one_session, is_quiet, is_quiet_boot, served_at}
+use Rattle.check_laws.specs.Hosting.{hosted_events}
+use Rattle.check_laws.specs.Hosts.{served_at}
+use Rattle.law_cuts.specs.Sessions.{Closing, closes_quietly, closing, ends_quietly, is_empty, is_one_session, is_quiet, is_quiet_boot}
 
 -- steps, and then others
 traced-then : (c : Content) (xs ys : List Step)

@@ -16,8 +16,8 @@ use Rattle.boot_cuts.specs.declared.answers.Class.TheVariants as classes
 use Rattle.boot_cuts.specs.Classes.{IsClass}
 use Rattle.boot_cuts.specs.Contents.{cut_contents}
 use Rattle.boot_tape.specs.Traces.{trace, trace_steps}
-use Rattle.cli_check.specs.SessionLaws.{KeepsTo}
-use Rattle.cli_check.specs.Sessions.{is_one_session}
+use Rattle.check_laws.specs.SessionLaws.{Holds}
+use Rattle.law_cuts.specs.Sessions.{is_one_session}
 
 -- the script is one session of a host, whose boots write nothing, and a sweep refuses it for no
 -- reason
@@ -72,13 +72,14 @@ pub record EndsFor (c : Content) (cpu : Cpu) (events : List EventView) (result :
       (trace c cpu events).last cpu class
   pub told : IsClassFor result class
 
--- the script is one session of a host, whose boots write nothing, and its steps are gated on the
--- slot w, where a normal boot on c starts no image; and they leave the table that there was. No
--- premise is on accidental images.
+-- the script is one session of a host, whose boots write nothing. Its steps keep to the slot w, where
+-- a normal boot on c starts no image, are gated on it, and leave the table that there was. No premise
+-- is on accidental images.
 pub record IsGatedScript (c : Content) (cpu : Cpu) (events : List EventView) (w : Window)
     : Type 0 where
   pub right : IsContent c
-  pub keeps : KeepsTo c cpu events w
+  pub session : is_one_session c cpu events ≡ true
+  pub holds : Holds c cpu (trace_steps (trace c cpu events).done) w
   pub gated : Gated (trace_steps (trace c cpu events).done) w
 
 -- a cut left the unfinished content d, and that has another table, or an accidental image in the

@@ -4,3 +4,4 @@ pub mod ListingLemmas
 pub mod OtpLemmas
 pub mod TableCaveatLemmas
 pub mod SlotLemmas
+pub mod SameLemmas

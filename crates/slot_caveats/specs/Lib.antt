@@ -7,4 +7,5 @@ pub mod TableRules
 pub mod SlotCaveats
 pub mod SlotRules
 pub mod Sought
+pub mod Same
 pub mod Examples

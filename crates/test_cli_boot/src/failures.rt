@@ -7,7 +7,7 @@ use std::test::Fail;
 use test_fixtures::{ARM_1_0, PAIR, VECTORS, elf_file, flash, words};
 
 /// The words of each command that reads a file or writes one, its reads, and its writes.
-const COMMANDS: [(&[&str], u64, u64); 24] = [
+const COMMANDS: [(&[&str], u64, u64); 25] = [
     (&["boot", "f", "o", "arm", "normal"], 2, 0),
     (&["info", "f", "o", "arm"], 2, 0),
     (&["data", "f", "o", "arm", "normal"], 2, 0),
@@ -18,6 +18,7 @@ const COMMANDS: [(&[&str], u64, u64); 24] = [
     (&["sweep", "f", "o", "arm", "s", "t"], 4, 0),
     (&["chart", "f", "o", "arm", "s", "t", "a"], 4, 1),
     (&["cuts", "f", "o", "arm", "s", "t"], 4, 0),
+    (&["check", "f", "o", "arm", "s", "t", "r"], 5, 0),
     (&["seal", "i", "p", "a"], 2, 1),
     (&["elf", "e", "p", "a"], 2, 1),
     (&["firm", "i", "arm"], 1, 0),
@@ -35,7 +36,8 @@ const COMMANDS: [(&[&str], u64, u64); 24] = [
 ];
 
 /// A store with an input of each form, of which the listed read and the listed write fail: a flash,
-/// an OTP, a script, an image, an ELF file, and texts.
+/// an OTP, a script, an image, an ELF file, and texts. The texts of what is asked of an update ask
+/// for no effect, and one of them for a digest too, which the image that starts lacks.
 fn store(alloc: Global, bad_read: u64, bad_write: u64) -> Result<MemStore, Fail> {
     let parts: [(usize, &[u32]); 3] = [(0, &PAIR), (0x2000, &VECTORS), (0x2100, &ARM_1_0)];
     let image: [(usize, &[u32]); 2] = [(0, &VECTORS), (0x100, &ARM_1_0)];
@@ -65,6 +67,14 @@ fn store(alloc: Global, bad_read: u64, bad_write: u64) -> Result<MemStore, Fail>
         (
             String::from_str(alloc, "j")?,
             Vec::from_slice(alloc, b"{}".as_slice())?
+        ),
+        (
+            String::from_str(alloc, "r")?,
+            Vec::from_slice(alloc, b"{\"effect\":\"none\"}".as_slice())?
+        ),
+        (
+            String::from_str(alloc, "h")?,
+            Vec::from_slice(alloc, b"{\"effect\":\"none\",\"hash\":true}".as_slice())?
         ),
     ]?;
     let bad_reads = vec![in alloc; bad_read]?;
@@ -114,21 +124,28 @@ fn each_failing_call_ends_its_command(rt: HostRuntime) -> Result<(), Fail> {
     Ok(())
 }
 
+/// A check of a script that writes nothing ends with this status, and puts its text. Each read and
+/// the put may fail.
+fn ends_with(alloc: Global, words: &[&str], reads: u64, status: Status) -> Result<bool, Fail> {
+    let mut is_so = ended(alloc, words, (reads, 0, 1))? == (status, false, false, true);
+    for read in 0..reads {
+        let end = ended(alloc, words, (read, 0, 1))?;
+        is_so = is_so && end == (Status::ReadFault, false, false, false);
+    }
+    let end = ended(alloc, words, (reads, 0, 0))?;
+    Ok(is_so && end == (Status::OutputFault, false, false, false))
+}
+
 #[test]
 fn a_check_of_no_effect_ends_with_its_verdict(rt: HostRuntime) -> Result<(), Fail> {
-    let alloc = rt.alloc();
     let words: &[&str] = &["check", "f", "o", "arm", "s", "t"];
-    let end = ended(alloc, words, (4, 0, 1))?;
-    assert_eq!(rt; end, (Status::NoEffect, false, false, true));
-    for read in 0..4 {
-        let end = ended(alloc, words, (read, 0, 1))?;
-        assert_eq!(rt;
-            end,
-            (Status::ReadFault, false, false, false),
-            "read {read}"
-        );
-    }
-    let end = ended(alloc, words, (4, 0, 0))?;
-    assert_eq!(rt; end, (Status::OutputFault, false, false, false));
+    assert!(rt; ends_with(rt.alloc(), words, 4, Status::NoEffect)?);
+    Ok(())
+}
+
+#[test]
+fn a_check_of_what_is_not_met_ends_with_its_verdict(rt: HostRuntime) -> Result<(), Fail> {
+    let words: &[&str] = &["check", "f", "o", "arm", "s", "t", "h"];
+    assert!(rt; ends_with(rt.alloc(), words, 5, Status::Unmet)?);
     Ok(())
 }

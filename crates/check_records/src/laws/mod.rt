@@ -3,13 +3,17 @@
 
 ghost use Rattle.std.specs.Prelude.{◌≡◌, ◌↔◌, ◌∷◌, ◌++◌, [], List, None, Some, false, map, ℕ};
 ghost use Rattle.pico_board.specs.declared.Step.{Step};
+ghost use Rattle.pico_board.specs.declared.boot.Cpu.{Cpu};
+ghost use Rattle.boot_script.specs.Events.{EventView};
+ghost use Rattle.boot_plays.specs.Plays.{powerless};
 ghost use Rattle.pico_board.specs.Content.{Content};
 ghost use Rattle.pico_board.specs.Steps.{CutOf, after_all};
 ghost use Rattle.part_table.specs.declared.Target.{Target};
 ghost use Rattle.uf2_place.specs.declared.block.Uf2.{Uf2};
 ghost use Rattle.uf2_place.specs.Placement.{grown, is_whole_download};
 ghost use Rattle.boot_sweep.specs.Moving.{Done};
-ghost use Rattle.check_records.specs.Caveats.{holds_back};
+ghost use Rattle.check_records.specs.Caveats.{first_from, holds_back, script_caveats};
+ghost use Rattle.check_records.specs.GatedBlocks.{is_gated_block};
 ghost use Rattle.check_records.specs.Repeats.{DiffersOnlyIn};
 ghost use Rattle.check_records.specs.Unerased.{IsFirstUnerased, IsUnerased, first_unerased};
 
@@ -44,4 +48,12 @@ pub fn a_gated_download_begins_by_holding_back()
         → is_whole_download (first ∷ (former ++ b ∷ [])) ≡ false
         → holds_back (map (λ s. Done s) (grown t (first ∷ former) (first ∷ (former ++ b ∷ []))))
         ≡ false }
+{}
+
+/// The event of `held-sector` is the first that is a block of a gated download: it is taken into
+/// one, which is current behind it, or with it one is done; and no power is lost in it.
+pub fn the_first_block_of_a_gated_download_is_told()
+    ensures { (c : Content) (cpu : Cpu) (events : List EventView)
+        → (script_caveats c cpu events).held
+        ≡ first_from is_gated_block 0 (powerless c cpu) events }
 {}

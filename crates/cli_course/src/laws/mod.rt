@@ -2,7 +2,7 @@
 //! does nothing.
 
 ghost use Rattle.std.specs.Prelude.{ℕ, ◌≡◌, ◌<◌, ◌≤◌, ◌+◌, ◌++◌, [], ◌∷◌, List, length, true, false};
-ghost use Rattle.cli_course.specs.declared.status.Status.TheVariants.{Done, Words, Input, Bootsel, ReadFault, WriteFault, OutputFault, Memory, Unbootable, Mixed, NoEffect, Refused};
+ghost use Rattle.cli_course.specs.declared.status.Status.TheVariants.{Done, Words, Input, Bootsel, ReadFault, WriteFault, OutputFault, Memory, Unbootable, Mixed, NoEffect, Refused, Unmet};
 ghost use Rattle.cli_course.specs.Statuses.{exit_status};
 ghost use Rattle.cli_course.specs.Outcomes.{LimitedInputView as ReadInput, is_finished};
 ghost use Rattle.cli_course.specs.Ends.{cut};
@@ -21,6 +21,7 @@ pub fn statuses_have_numbers()
     ensures mixed { exit_status Mixed ≡ 9 }
     ensures no_effect { exit_status NoEffect ≡ 10 }
     ensures refused { exit_status Refused ≡ 11 }
+    ensures unmet { exit_status Unmet ≡ 12 }
 {}
 
 /// A run is finished where its whole text was put: it is done, its arguments are no command, an
@@ -39,6 +40,7 @@ pub fn statuses_of_finished_runs()
     ensures mixed { is_finished Mixed ≡ true }
     ensures no_effect { is_finished NoEffect ≡ true }
     ensures refused { is_finished Refused ≡ true }
+    ensures unmet { is_finished Unmet ≡ true }
 {}
 
 /// Of a longer file one byte more than its limit is read. A file within its limit is read whole.

@@ -3,7 +3,7 @@
 
 ghost use Rattle.std.specs.Prelude.{◌≡◌, ◌*◌, [], ◌∷◌, codes, replicate, slice_get, Some, None};
 ghost use Rattle.part_table.specs.declared.table.TableFault.TheVariants.{Overlap, BadItem, Permissions, Range, Link, Hash};
-ghost use Rattle.cli_inputs.specs.declared.forms.Form.TheVariants.{Flash, Otp, Script, Pattern, Binary, Spec, Json, Image, SourceImage, Elf, Uf2, Text, OtpText};
+ghost use Rattle.cli_inputs.specs.declared.forms.Form.TheVariants.{Flash, Otp, Script, Pattern, Binary, Spec, Json, Image, SourceImage, Elf, Uf2, Text, OtpText, Require};
 ghost use Rattle.boot_script.specs.declared.event.ScriptError.TheVariants.{TooMany};
 ghost use Rattle.cli_inputs.specs.Forms.{limit_of, form_fault, script_text, filled_flash, filled_length, rows_of, otp_of};
 ghost use Rattle.table_json.specs.declared.fault.JsonFault.TheVariants.{NotJson, Unknown, Missing, Value, TooLong, Table as Faulty};
@@ -114,6 +114,10 @@ pub fn forms_of_texts()
     ensures list_of_otp { form_fault OtpText (codes "[]")
         ≡ Some (codes "value top rollback_required") }
     ensures otp_unknown { form_fault OtpText (codes "{\"x\":1}") ≡ Some (codes "unknown top") }
+    ensures asks { form_fault Require (codes "{\"hash\":true}") ≡ None }
+    ensures asks_of_list { form_fault Require (codes "[]") ≡ Some (codes "value top effect") }
+    ensures asks_unknown { form_fault Require (codes "{\"x\":1}") ≡ Some (codes "unknown top") }
+    ensures asks_nothing { form_fault Require [] ≡ Some (codes "not-json") }
 {}
 
 /// An image has a bound, and no byte is no fault of its form.

@@ -239,16 +239,3 @@ pub fn helps_of_commands()
         "help                     the same\nhelp COMMAND             how one command is used\n"
         ++ (codes "COMMAND  the first word of a line above\n" ++ STATUSES.now) }
 {}
-
-/// The meanings of the statuses, in these words.
-pub fn meanings_of_statuses()
-    ensures { STATUSES.now ≡
-        codes "Status 0 means that the text is whole, 1 that the words are no command, 2 that an"
-        ++ (codes " input is refused,\n3 that the boot falls to BOOTSEL, 4 that a file could not be"
-        ++ (codes " read, 5 that a file could not be\nwritten, 6 that standard output failed, and 7"
-        ++ (codes " that there was no memory. cuts and check end with 8\nwhere some loss of power,"
-        ++ (codes " or the whole script, leaves nothing to start. cuts ends with 9 where one\n"
-        ++ (codes "starts a half-written image, and check where one starts an image that is neither"
-        ++ (codes " the former nor the\nfinished one. check ends with 11 where a record of the"
-        ++ codes " script did nothing, and with 10 where the\nscript has no effect.\n")))))) }
-{}

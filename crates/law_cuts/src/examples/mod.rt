@@ -17,7 +17,7 @@ ghost use Rattle.boot_cuts.specs.Contents.{cut_contents};
 ghost use Rattle.boot_tape.specs.Traces.{trace};
 ghost use Rattle.check_laws.specs.Hosts.{HostWrites, IsHosts};
 ghost use Rattle.check_laws.specs.SessionLaws.{Holds, KeepsTo};
-ghost use Rattle.cli_check.specs.Sessions.{is_one_session};
+ghost use Rattle.law_cuts.specs.Sessions.{is_one_session};
 ghost use Rattle.worked_flashes.specs.Choices.{small_former, small_slot};
 ghost use Rattle.worked_flashes.specs.Flashes.{arm_slot, bare_slot, beside_small, data_page};
 ghost use Rattle.worked_flashes.specs.Writes.{longer_steps};

@@ -17,7 +17,7 @@ ghost use Rattle.boot_cuts.specs.declared.answers.Class.{Class};
 ghost use Rattle.boot_cuts.specs.Classes.{IsClass};
 ghost use Rattle.boot_cuts.specs.Contents.{cut_contents};
 ghost use Rattle.boot_tape.specs.Traces.{trace, trace_steps, traced_from};
-ghost use Rattle.cli_check.specs.Sessions.{is_one_session};
+ghost use Rattle.law_cuts.specs.Sessions.{is_one_session};
 ghost use Rattle.law_cuts.specs.Cases.{ArmsNoCut, EndsFor, HasClassFor, IsAccident, IsGatedScript, IsOther, IsSweptScript, IsWholeOrNone};
 
 /// The trace of a script that is one session of a host has the steps of its session, each with the

@@ -4,10 +4,14 @@
 pub mod slots;
 
 ghost use Rattle.std.specs.Prelude.{◌≡◌, [], ◌∷◌, None, Some, Ok, Err, true, false};
+ghost use Rattle.block_loop.specs.declared.fault.LoopFault.{LoopFault};
+ghost use Rattle.image_def.specs.declared.fault.DefFault.{DefFault};
+ghost use Rattle.image_check.specs.declared.why.Why.{Why};
 ghost use Rattle.part_table.specs.declared.table.TableFault.{TableFault};
 ghost use Rattle.boot_rules.specs.declared.slots.SlotFault.{SlotFault};
 ghost use Rattle.slot_caveats.specs.declared.caveat.Caveat.{Caveat};
 ghost use Rattle.slot_caveats.specs.OtpCaveats.{critical_caveats, otp_caveats, raw_critical, raw_flags, raw_slot_size, secure_boot, short_slots};
+ghost use Rattle.slot_caveats.specs.Same.{is_same_caveat};
 ghost use Rattle.slot_caveats.specs.TableCaveats.{short_flash, table_tie, unread_caveats, unread_families};
 ghost use Rattle.slot_caveats.specs.Examples.{otp_from, part_with, table_of_parts};
 
@@ -120,4 +124,26 @@ pub fn slot_sizes_that_do_not_fit()
     ensures past { short_slots (otp_from 0x055 (12 ∷ [])) 0x2000 ≡ None }
     ensures low_bits { short_slots (otp_from 0x055 (0x11 ∷ [])) 0x3000
         ≡ Some (Caveat.ShortSlots 0x2000) }
+{}
+
+/// Two caveats are the same where they are of one variant and tell the same.
+pub fn caveats_that_are_the_same()
+    ensures same { is_same_caveat (Caveat.RawFlags 0x048 4) (Caveat.RawFlags 0x048 4) ≡ true }
+    ensures variant { is_same_caveat (Caveat.RawFlags 0x048 4) (Caveat.RawCritical 0x048 4)
+        ≡ false }
+    ensures first { is_same_caveat (Caveat.RawFlags 0x048 4) (Caveat.RawFlags 0x049 4) ≡ false }
+    ensures second { is_same_caveat (Caveat.RawFlags 0x048 4) (Caveat.RawFlags 0x048 8) ≡ false }
+    ensures window { is_same_caveat (Caveat.Tie (record { start = 0; len = 8 })
+        (record { start = 8; len = 8 }))
+        (Caveat.Tie (record { start = 0; len = 8 }) (record { start = 8; len = 4 })) ≡ false }
+    ensures rule { is_same_caveat
+        (Caveat.MayStart (record { start = 0; len = 8 }) (Why.Loop (LoopFault.Broken 4)))
+        (Caveat.MayStart (record { start = 0; len = 8 }) (Why.Loop (LoopFault.Broken 8)))
+        ≡ false }
+    ensures rules { is_same_caveat
+        (Caveat.MayStart (record { start = 0; len = 8 }) (Why.Items (DefFault.BadRow 1)))
+        (Caveat.MayStart (record { start = 0; len = 8 }) (Why.Items (DefFault.RepeatedRow 1)))
+        ≡ false }
+    ensures fault { is_same_caveat (Caveat.FaultyTable 0 (TableFault.Link 2))
+        (Caveat.FaultyTable 0 (TableFault.Range 2)) ≡ false }
 {}

@@ -10,6 +10,7 @@ loop-i-preserved g c =
     let content = (g.B.Board.state c.args.board.now).content in
     record {
       kept = search rules;
+      knows = search rules;
       listed = listed-more (owned_image content c.args.cpu c.args.parts.now) (range_with_len 0 c.loop-i.i) _ c.loop-i.i
           c.args.list.now.items c.loop-i.list.items c.add.new.list.items (range-next c.loop-i.i)
           c.loop-i.invariant.listed

@@ -7,6 +7,7 @@ loop-look-preserved g c =
     let content = (g.B.Board.state c.args.board.now).content in
     record {
       kept = search rules;
+      knows = search rules;
       rest = others-more content c.args.cpu c.args.looks.now c.loop-look.look-index c.look-item.result
           c.loop-look.member c.loop-look.windows.items c.push_others.new.windows.items _ c.loop-look-test.true
           c.look-item.is c.loop-look.invariant.rest c.push_others.ensures.value;

@@ -40,12 +40,15 @@ pub returns-clause-gated : goal.returns-clause-gated
 returns-clause-gated c =
     let session = c.a_cut_behind_the_image.ensures.session in record {
       right = session.right;
-      keeps = record {
-        session = one;
-        slot = subst (λ (xs : List Step). IsSlot small Arm xs small_slot) (sym steps-are) (slot session.boot_member);
-        confined = subst (λ (xs : List Step). Confined xs small_slot) (sym steps-are) confined;
+      session = one;
+      holds = record {
+        keeps = record {
+          slot = subst (λ (xs : List Step). IsSlot small Arm xs small_slot) (sym steps-are) (slot session.boot_member);
+          confined = subst (λ (xs : List Step). Confined xs small_slot) (sym steps-are) confined;
+        };
         elsewhere = elsewhere session.former;
-        table = ap (λ (z : Content). table_in z) last-are ∙ same-table session.right session.boot_member;
+        table = ap (λ (xs : List Step). table_in (after_all small xs)) steps-are
+            ∙ same-table session.right session.boot_member;
       };
       gated = subst (λ (xs : List Step). Gated xs small_slot) (sym steps-are) gated;
     }

@@ -2,8 +2,6 @@
 use Rattle.std.proofs.Common.{◌≡◌, inl, inr, true, List, [], ◌∷◌, ◌++◌, refl, ap}
 use Rattle.std.specs.List.{list_any}
 use Rattle.pico_board.specs.declared.Step.TheVariants.{Erase}
-use Rattle.pico_board.specs.declared.boot.Cpu.TheVariants.{Arm}
-use Rattle.pico_board.specs.Content.{Content}
 use Rattle.block_codec.specs.Blocks.{frame}
 use Rattle.block_codec.specs.Items.{size_of}
 use Rattle.block_codec.specs.Reading.{block_at, front_block, item_words}
@@ -15,15 +13,12 @@ use Rattle.boot_rules.specs.Choosing.{decision_in}
 use Rattle.boot_rules.specs.Tables.{table_in}
 use Rattle.picoboot_cmd.specs.Pages.{padded_page}
 use Rattle.script_plan.specs.Commands.{erase_cmd, sent, write_cmd}
-use Rattle.boot_plays.specs.Plays.{moved_machine, powerless}
+use Rattle.boot_plays.specs.Plays.{moved_machine}
 use Rattle.boot_sweep.specs.Moving.{MoveView, Done}
 use Rattle.boot_tape.specs.Moving.{does_step}
-use Rattle.boot_machine.specs.Machines.{MachineView}
 use Rattle.worked_flashes.specs.Choices.{small_former}
 use Rattle.worked_flashes.specs.Flashes.{block_page, data_page, vector_page}
-use Rattle.worked_flashes.specs.Writes.{longer_steps}
-use Rattle.law_cuts.specs.Examples.{small_script}
-use Rattle.law_cuts.proofs.ExampleLemmas.{confined, elsewhere, same-table, slot, small}
+use Rattle.law_cuts.proofs.ExampleLemmas.{confined, elsewhere, same-table, slot}
 use Rattle.law_cuts.proofs.examples.a_script_of_a_host.Goals as goal
 
 pub returns-clause-hosts : goal.returns-clause-hosts

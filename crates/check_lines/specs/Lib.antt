@@ -1,0 +1,4 @@
+-- These definitions are this project's own, except where a comment names a public source.
+pub mod Texts
+pub mod Counting
+pub mod Examples

@@ -1,0 +1,11 @@
+pub mod BootLemmas
+pub mod KeptLemmas
+pub mod MadeLemmas
+pub mod RowBitLemmas
+pub mod WriteLemmas
+pub mod ServedLemmas
+pub mod DownloadLemmas
+pub mod AgainLemmas
+pub mod TargetLemmas
+pub mod OftenLemmas
+pub mod MetLemmas

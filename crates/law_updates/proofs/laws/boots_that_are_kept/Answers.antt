@@ -1,0 +1,5 @@
+use Rattle.law_updates.proofs.MadeLemmas.{boot-kept}
+use Rattle.law_updates.proofs.laws.boots_that_are_kept.Goals as goal
+
+pub returns : goal.returns
+returns c = boot-kept

@@ -1,0 +1,8 @@
+-- These definitions are this project's own, except where a comment names a public source.
+pub mod Boots
+pub mod Made
+pub mod Again
+pub mod Targets
+pub mod Often
+pub mod Examples
+pub mod Met

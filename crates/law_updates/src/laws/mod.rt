@@ -1,0 +1,163 @@
+//! Laws of updates, each the contract of a function that does nothing.
+
+ghost use Rattle.std.specs.Prelude.{◌≡◌, ◌⊎◌, ◌+◌, ℕ, List, [], Option, Some};
+ghost use Rattle.std.specs.List.{AllByRecursion};
+ghost use Rattle.boot_machine.specs.Machines.{Host, MachineView};
+ghost use Rattle.boot_machine.specs.Serving.{table_of_found};
+ghost use Rattle.boot_rules.specs.Chosen.{Chosen};
+ghost use Rattle.boot_rules.specs.declared.decision.Decision.{Decision};
+ghost use Rattle.boot_rules.specs.declared.decision.Decision.TheVariants.{Start};
+ghost use Rattle.boot_rules.specs.Tables.{table_in};
+ghost use Rattle.boot_rules.specs.Targets.{target_of};
+ghost use Rattle.boot_script.specs.Events.{EventView};
+ghost use Rattle.boot_session.specs.CutSessions.{StartsFinished};
+ghost use Rattle.boot_session.specs.Sessions.{entered_host, session};
+ghost use Rattle.check_images.specs.declared.found.ImageFacts.{ImageFacts};
+ghost use Rattle.check_images.specs.Boots.{after_boot};
+ghost use Rattle.check_images.specs.Effects.{IsEffect};
+ghost use Rattle.check_images.specs.Starting.{IsStart};
+ghost use Rattle.check_laws.specs.OwnLaws.{BootMade, BuyMade, IsBootKept, IsBuyKept};
+ghost use Rattle.check_records.specs.Unerased.{IsUnerased};
+ghost use Rattle.check_require.specs.Meeting.{unmet};
+ghost use Rattle.check_require.specs.Reports.{ReportView};
+ghost use Rattle.check_require.specs.Requires.{default_require};
+ghost use Rattle.image_check.specs.SameImage.{SameImage};
+ghost use Rattle.law_boot_cuts.specs.Crashes.{LeavesNoAccidentalImage};
+ghost use Rattle.law_boot_cuts.specs.Running.{RunsTrial};
+ghost use Rattle.law_updates.specs.Again.{IsNoBlock, NamesRowsOnce};
+ghost use Rattle.law_updates.specs.Often.{IsLeftAfter};
+ghost use Rattle.law_updates.specs.Targets.{AsksOnce, HaveSameTargets};
+ghost use Rattle.law_updates.specs.Boots.{after_boots};
+ghost use Rattle.law_updates.specs.Made.{DoesBoot, DoesBuy};
+ghost use Rattle.law_updates.specs.Met.{GoesOn, LeavesWholeImages};
+ghost use Rattle.pico_board.specs.Content.{Content, IsContent};
+ghost use Rattle.pico_board.specs.Steps.{CutOf, IsCutAt, after_all};
+ghost use Rattle.pico_board.specs.declared.Step.{Step};
+ghost use Rattle.pico_board.specs.declared.boot.BootKind.TheVariants.{Normal};
+ghost use Rattle.pico_board.specs.declared.boot.Cpu.{Cpu};
+ghost use Rattle.slot_choice.specs.declared.choice.Choice.{Choice};
+ghost use Rattle.trial_buy.specs.Starting.{start_steps};
+
+use boot_machine::laws::run::a_running_trial_is_chosen;
+use check_records::laws::{
+    steps_that_are_done_again_come_to_one_end, the_first_unerased_step_is_told,
+};
+
+/// Where a normal boot starts an image, it goes on: each of any number of normal boots after it
+/// starts that image, with the bytes that it has. The first one raises the rows of the image, if it
+/// writes at all, and those behind it write nothing. So what holds of the content after the first
+/// one, as which images are valid on it, holds after each of them.
+pub fn a_start_goes_on()
+    ensures starts { (z : Content) (cpu : Cpu) (choice : Choice) (n : ℕ) → IsContent z
+        → Chosen z cpu Normal (Start choice)
+        → Chosen (after_boots n z cpu) cpu Normal (Start choice) }
+    ensures bytes { (z : Content) (cpu : Cpu) (choice : Choice) (n : ℕ) → IsContent z
+        → Chosen z cpu Normal (Start choice)
+        → SameImage (after_boots n z cpu) z choice.image cpu }
+    ensures settled { (z : Content) (cpu : Cpu) (choice : Choice) → IsContent z
+        → Chosen z cpu Normal (Start choice)
+        → start_steps (after_boot z cpu) cpu choice ≡ [] }
+    ensures content { (z : Content) (cpu : Cpu) (n : ℕ) → IsContent z
+        → after_boots (n + 1) z cpu ≡ after_boot z cpu }
+{}
+
+/// What `law boot=kept` says. Let a boot of a script be kept: it starts the image that a normal
+/// boot would start and raises rows alone; or there is a table, and no image of another boot unit
+/// lists a row whose triple shares a row with one that the boot raises. Then what a loss of power
+/// in its steps leaves boots as before it, or starts whole what starts after it. But where an erase
+/// or a program is cut, this may leave an accidental image in the window that the step writes.
+pub fn boots_that_are_kept()
+    ensures { (cpu : Cpu) (b : BootMade) (choice : Choice) (k : ℕ) (step : Step) (d : Content)
+        (former : Decision)
+        → IsContent b.before → DoesBoot cpu b choice → IsBootKept cpu b
+        → IsCutAt b.before b.done k step d
+        → LeavesNoAccidentalImage b.before (after_all b.before b.done) d cpu choice step
+        → Chosen b.before cpu Normal former
+        → Chosen d cpu Normal former ⊎ StartsFinished (after_all b.before b.done) d cpu }
+{}
+
+/// What `law buy=kept` says, of the buy of a trial image that runs. Let the content before it have
+/// a table, and let no image of another boot unit list a row whose triple shares a row with one
+/// that the buy raises. Then what a loss of power in its steps leaves boots as before it, or starts
+/// whole what starts after it. But where an erase or a program is cut, this may leave an accidental
+/// image in the window that the step writes. So it may start half-written, where it has no digest.
+pub fn buys_that_are_kept()
+    ensures { (m n : MachineView) (b : BuyMade) (k : ℕ) (step : Step) (d : Content)
+        (former : Decision)
+        → RunsTrial m n b.choice → IsContent b.before → DoesBuy n b → IsBuyKept n.cpu b
+        → IsCutAt b.before b.done k step d
+        → LeavesNoAccidentalImage b.before (after_all b.before b.done) d n.cpu b.choice step
+        → Chosen b.before n.cpu Normal former
+        → Chosen d n.cpu Normal former ⊎ StartsFinished (after_all b.before b.done) d n.cpu }
+{
+    a_running_trial_is_chosen();
+}
+
+/// Played again. The events are those of a host, from BOOTSEL on as it is entered on the content c:
+/// c1, where they are those of a host's script. Let each program of their session follow an erase of
+/// its sector, and let a loss of power in the session leave d, with the table of c. Let each UF2
+/// block that asks for the target of its family, since it is not skipped and continues no download,
+/// have the same one on d as on c. Then the session that the events make on d leads to the end of
+/// the one on c. It has the same steps where no two OTP writes name one row. Of two that do, the
+/// first may be refused on d, since the row has the bits of the second already.
+pub fn a_script_that_is_played_again()
+    ensures content { (c d : Content) (cpu : Cpu) (events : List EventView)
+        → HaveSameTargets c d cpu (entered_host c) events
+        → ((k : ℕ) → IsUnerased (session c cpu events) k → ⊥)
+        → CutOf c (session c cpu events) d → table_in d ≡ table_in c
+        → after_all d (session d cpu events) ≡ after_all c (session c cpu events) }
+    ensures steps { (c d : Content) (cpu : Cpu) (events : List EventView)
+        → HaveSameTargets c d cpu (entered_host c) events → NamesRowsOnce events
+        → CutOf c (session c cpu events) d → table_in d ≡ table_in c
+        → session d cpu events ≡ session c cpu events }
+{
+    the_first_unerased_step_is_told();
+    steps_that_are_done_again_come_to_one_end();
+}
+
+/// Played again and again. Let no two OTP writes of the events name one row, and let each program of
+/// their session follow an erase of its sector. Let power be lost any number of times: in the session,
+/// and then each time in the one that is played again on what the loss before left. Each loss leaves
+/// the table as it was, and gives each block that asks for a target the same one; and no boot in
+/// between writes. Then the session does the same steps each time, and once it is played to its end
+/// the content is the one that it would have come to.
+pub fn a_script_that_is_played_often()
+    ensures steps { (n : ℕ) (c d : Content) (cpu : Cpu) (events : List EventView)
+        → NamesRowsOnce events → IsLeftAfter n c cpu events d
+        → session d cpu events ≡ session c cpu events }
+    ensures content { (n : ℕ) (c d : Content) (cpu : Cpu) (events : List EventView)
+        → NamesRowsOnce events → ((k : ℕ) → IsUnerased (session c cpu events) k → ⊥)
+        → IsLeftAfter n c cpu events d
+        → after_all d (session d cpu events) ≡ after_all c (session c cpu events) }
+{
+    the_first_unerased_step_is_told();
+    steps_that_are_done_again_come_to_one_end();
+}
+
+/// Which blocks have the same targets, as a script is played again on d which was made for c.
+/// Commands ask for none. Where one block asks, before any step, its family has to have the same
+/// target on d and on c.
+pub fn targets_that_are_the_same()
+    ensures commands { (c d : Content) (cpu : Cpu) (host : Host) (events : List EventView)
+        → AllByRecursion IsNoBlock events → HaveSameTargets c d cpu host events }
+    ensures download { (c d : Content) (cpu : Cpu) (family : ℕ) (host : Host)
+        (events : List EventView) → AsksOnce c d cpu family host events
+        → target_of d (table_of_found host.found) cpu family
+        ≡ target_of c (table_of_found host.found) cpu family
+        → HaveSameTargets c d cpu host events }
+{}
+
+/// Met, and it goes on. Where nothing is unmet that is asked by default, another image starts at
+/// the end, and each loss of power leaves an image that starts whole: what was there before, or
+/// what is there at the end. No loss, and not the whole update, leaves a board that starts nothing
+/// which did not before, nor a half-written image. Where the update leads from the content c to z,
+/// each of any number of normal boots after z starts the image that is told of z. What the first
+/// one leaves, all leave. So what is told of the image beside it, and of images that are lost,
+/// holds after each.
+pub fn met_and_it_goes_on()
+    ensures cuts { (r : ReportView) → unmet default_require r ≡ [] → LeavesWholeImages r }
+    ensures boots { (c z : Content) (cpu : Cpu) (r : ReportView) (starts : Option ImageFacts)
+        → IsContent z → unmet default_require r ≡ [] → IsEffect c z cpu r.image
+        → IsStart z cpu starts
+        → (told : ImageFacts) × (starts ≡ Some told) × GoesOn z cpu told }
+{}

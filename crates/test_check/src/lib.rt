@@ -1,0 +1,5 @@
+//! Tests of the calls that check an update. They stand apart from the crate that they test.
+#![tactic(auto)]
+
+#[cfg(test)]
+mod updates;
