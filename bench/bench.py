@@ -205,6 +205,20 @@ def sweeps(program, folder, size, name):
     command = [program, "cuts", *board, paths["plan"], paths["pattern"]]
     cuts = least(command, lambda lines: lines[-1].startswith(f"end {steps} finished "), SWEEP_RUNS)
     print(f"cuts of the same plan: {cuts:.2f} s, ratio to sweep {cuts / whole:.2f}, {memory(command):.0f} MiB at most")
+    checks(program, board, (paths["plan"], paths["pattern"]), steps, cuts, (0,))
+
+
+def counted(lines):
+    """How many cuts the line of the classes counts."""
+    line = next(it for it in lines if it.startswith("cuts former="))
+    return sum(int(it.split("=")[1]) for it in line.split()[1:7])
+
+
+def checks(program, board, paths, steps, cuts, statuses):
+    """Tells of the check of a script of so many steps beside its cuts."""
+    command = [program, "check", *board, *paths]
+    check = least(command, lambda lines: counted(lines) == 2 * steps, SWEEP_RUNS, statuses)
+    print(f"check of the same script: {check:.2f} s, ratio to cuts {check / cuts:.2f}, {memory(command):.0f} MiB at most")
 
 
 def loads(program, folder):
@@ -227,6 +241,7 @@ def loads(program, folder):
     cuts = least(command, lambda lines: lines[-1].startswith(f"end {steps} finished "), SWEEP_RUNS, (UNBOOTABLE,))
     print(f"cuts of a load of 1 MiB, {steps:,} steps: {cuts:.2f} s, boot {1000 * boot:.1f} ms, "
           f"ratio {cuts / boot:.0f}, {memory(command):.0f} MiB at most")
+    checks(program, board, (paths["load"], paths["byte"]), steps, cuts, (UNBOOTABLE,))
 
 
 def greatest_files(folder):

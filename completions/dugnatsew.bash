@@ -30,8 +30,8 @@ _dugnatsew_form() {
         boot | data | explain | caveats) forms+=(FILE FILE CPU KIND) ;;
         info) forms+=(FILE FILE CPU) ;;
         map) forms+=(FILE FILE CPU FILE) ;;
-        replay | chart) forms+=(FILE FILE CPU FILE FILE FILE) ;;
-        sweep | cuts | check | plan | load | stage) forms+=(FILE FILE CPU FILE FILE) ;;
+        replay | chart | check) forms+=(FILE FILE CPU FILE FILE FILE) ;;
+        sweep | cuts | plan | load | stage) forms+=(FILE FILE CPU FILE FILE) ;;
         seal | elf | script) forms+=(FILE FILE FILE) ;;
         firm) forms+=(FILE CPU) ;;
         table | otp | copy) forms+=(FILE FILE) ;;

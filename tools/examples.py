@@ -17,6 +17,7 @@ is made by the program. The files:
     update.text  its text
     ota.text     the text of an update that an application makes itself, with bytes of an image
     table.json, spec.json, otp.json   the texts of the table, of the sealed image and of the OTP
+    require.json   what is asked of an update
     pattern      the one byte that a torn step leaves here
 """
 
@@ -46,6 +47,13 @@ TABLE = """{"version": [1, 0],
 """
 FORMER_SPEC = '{"processor": "arm", "version": [1, 0]}\n'
 SPEC = '{"processor": "arm", "version": [1, 1]}\n'
+REQUIRE = """\
+{"version": "up",
+ "fallback": true,
+ "hash": true,
+ "again": true,
+ "session": "staged"}
+"""
 OTA = """\
 # The application runs from A, writes B at 0x10020000, and asks for the update.
 power
@@ -167,6 +175,7 @@ def main():
     folder.run("plan", "pair.bin", "otp.bin", "arm", "sealed.img", "update.script")
     folder.write("update.text", folder.run("list", "update.script"))
     folder.write("ota.text", OTA)
+    folder.write("require.json", REQUIRE)
     folder.remove("former.img", "former.json", "former.sealed", "table.bin")
 
 

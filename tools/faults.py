@@ -31,6 +31,10 @@ JSON = "crates/cli_inputs/src/json.rt"
 # It puts the fault of a line of a text behind the line's number.
 TEXTS = "crates/cli_scripts/src/texts.rt"
 
+# It puts a member's name behind a word, and a reason behind another.
+COUNTS = "crates/check_lines/src/counting.rt"
+MEMBERS = "crates/check_require/src/members.rt"
+
 # Texts that tell no fault.
 OTHERS = """
 end|taken|done|buy done|cut armed|none|yes|no|running|bootsel|0x
@@ -52,8 +56,11 @@ unit {} not-reached|unit {} takes|updated|version|w|whole
 {} {} to {}|{} to {}|chart steps={} former={} finished={} chance={}|steps|steps 0 to {}|within
 {} starts|free|map windows={}|partition {} name={} families={}
 caveat {name} {}|caveat {name} partition={}|caveat {name} {} at={}|{} {} bytes={}|{} {}{}|{} rows={}|cmd 0x|load|plan|s
-{} event={} {}{}|{}{}{}|cuts former={} finished={} bootsel={} other={}|former {}end {}effect {}|image hash={}|image none
-law confined|law gated|records ok|rows raised={}{}{}
+{} event={} {}{}|{}{}{}|{}{}{}{}{}|{}{}{}{}{}{}{}|former {}end {}|effect image={} table={} flash={}|records ok
+written {} by={} {}|starts {} loose={}|starts none|fallback {} {}|fallback none|ok {} rollback={} trial={} hash={} firm={}
+law session={}|law boot={}|law buy={}|confined {}|kept|open|open because={}|{} former={} end={} cuts={}
+cuts former={} finished={} whole={} tail={} mixed={} bootsel={} falls={}|cuts {} {} falls={}
+former={} finished={} whole={}|tail={} mixed={} bootsel={}
 again no step={}|again no table|again no target|again yes|data {} of={} written={} torn={}|torn
 records refused={} first={}|records unfinished={}
 gated|stage {} bytes={} order={}|staged
@@ -100,6 +107,10 @@ def code_texts(files):
         if file == TEXTS:
             code = re.sub(r'(Fault::.*format!\(in alloc; ")', r"\1text {n} ", code)
             code = code.replace('"text {n} {fault}"', '""')
+        if file == COUNTS:
+            code = re.sub(r'(Reason::\w+ => ")', r"\1open because=", code)
+            members = re.findall(r'Member::\w+ => "(\w+)"', pathlib.Path(MEMBERS).read_text(encoding="utf-8"))
+            code = code.replace('"unmet {name}\\n"', " ".join(f'"unmet {it}"' for it in members))
         texts = re.findall(r'"((?:[^"\\]|\\.)*)"', code)
         for text in joined(texts) if file == IN_PARTS else texts:
             # what begins or ends with a blank or a sign is a part of a line

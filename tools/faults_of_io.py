@@ -53,6 +53,7 @@ COMMANDS = (
     "replay pair.bin otp.bin arm update.script out.flash out.otp",
     "cuts pair.bin otp.bin arm update.script pattern",
     "check pair.bin otp.bin arm update.script pattern",
+    "check pair.bin otp.bin arm update.script pattern require.json",
     "sweep pair.bin otp.bin arm update.script pattern",
     "chart pair.bin otp.bin arm update.script pattern out.svg",
     "list update.script",

@@ -41,6 +41,7 @@ COMMANDS = (
     "replay pair.bin otp.bin CPU update.script out.flash out.otp",
     "cuts pair.bin otp.bin CPU update.script pattern",
     "check pair.bin otp.bin CPU update.script pattern",
+    "check pair.bin otp.bin CPU update.script pattern require.json",
     "sweep pair.bin otp.bin CPU update.script pattern",
     "chart pair.bin otp.bin CPU update.script pattern out.svg",
     "list update.script",
@@ -48,7 +49,7 @@ COMMANDS = (
 )
 KINDS = ("normal", "bootsel", "update=0x10000000", "update=0x10002000", "update=0x10020000")
 # The statuses that a run on files that are there can have.
-STATUSES = (0, 2, 3, 8, 9, 10, 11)
+STATUSES = (0, 2, 3, 8, 9, 10, 11, 12)
 FALLS = ("boot", "data", "caveats")
 REFUSED = re.compile(rb"input \S+: [^\n]+\n")
 

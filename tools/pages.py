@@ -17,7 +17,7 @@ MOST = {
     "docs/ARCHITECTURE.md": 10_000,
     "docs/PROVED.md": 10_000,
     "docs/DECISIONS.md": 12_000,
-    "docs/GLOSSARY.md": 9_000,
+    "docs/GLOSSARY.md": 10_000,
     "docs/WORKING.md": 21_000,
 }
 OTHERS = ("GUIDE", "TUTORIAL", "REFERENCE", "PROMISE", "FAQ", "MODEL", "FAULTS", "CHIP", "RULES")
