@@ -4,8 +4,10 @@ ghost use Rattle.std.specs.Prelude.{◌≡◌, ◌++◌, IfOk, IsTrue, OnOk};
 ghost use Rattle.sector_pool.specs.Keeping.{KeepsOut};
 ghost use Rattle.sector_pool.specs.Pool.{HasFree};
 ghost use Rattle.image_check.specs.Digests.{Knows};
+ghost use Rattle.boot_rules.specs.Choosing.{boot_units_in};
 ghost use Rattle.boot_reasons.specs.Reasons.{reasons_in};
 ghost use Rattle.boot_caveats.specs.Caveats.{board_caveats, caveats_by, caveats_in, choice_caveats, last_caveats, window_caveats};
+ghost use Rattle.boot_caveats.specs.ChoiceCaveats.{update_moves, update_of_nothing};
 ghost use Rattle.boot_caveats.specs.Rules.{AreCaveats};
 
 use crate::choices::{add_slot_images, first_tie, update_moves, update_of_nothing, update_of_slot};
@@ -15,7 +17,7 @@ use crate::parts::{add_ignore_flags, add_no_reads};
 use crate::processors::add_other_processors;
 use crate::starts::{add_rows, table_in_image};
 use crate::unread::unread_start;
-use boot_reasons::{Reasons, gather_by, taken_table};
+use boot_reasons::{Reasons, TableInForce, gather_by, taken_table};
 use boot_rules::boot_units_in;
 use image_check::Digests;
 use pico_board::{Board, BootKind, Cpu};
@@ -44,6 +46,20 @@ fn add_board<B: Board>(
     add(list, short_flash(board.flash_len(), 1, &reasons.second))?;
     add(list, short_slots(board))?;
     add(list, table_in_image(board, &reasons.decision))
+}
+
+/// An update boot moves a unit to the front. The units are looked up for an update alone.
+fn moved_unit<B: Board>(board: &B, cpu: Cpu, kind: BootKind) -> Option<Caveat>
+    requires power { IsTrue (B.state board.now).powered }
+    ensures { result ≡ update_moves kind (boot_units_in (B.state board.now).content cpu) }
+{
+    match kind {
+        BootKind::Update(_) => {
+            let units = boot_units_in(board, cpu);
+            update_moves(kind, units.as_slice())
+        }
+        BootKind::Normal | BootKind::Bootsel => None,
+    }
 }
 
 /// Adds the caveats of the choice, and of the rows of the image that starts.
@@ -80,8 +96,7 @@ fn add_choice<B: Board>(
     )?;
     add(list, first_tie(looks))?;
     add(list, update_of_slot(kind, reasons.size, reasons.table))?;
-    let units = boot_units_in(board, cpu);
-    add(list, update_moves(kind, units.as_slice()))?;
+    add(list, moved_unit(board, cpu, kind))?;
     add_rows(board, decision, list)
 }
 
@@ -117,6 +132,28 @@ fn add_windows<B: Board>(
     add(list, table_tie(&reasons.first, &reasons.second))
 }
 
+/// An update boot's address is that of no member, and it has no caveat of a table slot. The units
+/// are looked up for an update alone.
+fn nothing_updated<B: Board>(
+    board: &B,
+    cpu: Cpu,
+    kind: BootKind,
+    size: u32,
+    table: Option<TableInForce>,
+) -> Option<Caveat>
+    requires power { IsTrue (B.state board.now).powered }
+    ensures { result
+        ≡ update_of_nothing kind size table (boot_units_in (B.state board.now).content cpu) }
+{
+    match kind {
+        BootKind::Update(_) => {
+            let units = boot_units_in(board, cpu);
+            update_of_nothing(kind, size, table, units.as_slice())
+        }
+        BootKind::Normal | BootKind::Bootsel => None,
+    }
+}
+
 /// Adds the caveats of what stands in the slots, of critical flags, of the definitions that
 /// are looked at, of flags and rights of partitions, and of an update of nothing.
 fn add_last<B: Board>(
@@ -144,10 +181,9 @@ fn add_last<B: Board>(
     let table = taken_table(reasons.table, &reasons.first, &reasons.second);
     add_ignore_flags(table, list)?;
     add_no_reads(&reasons.decision, table, board.flash_len(), list)?;
-    let units = boot_units_in(board, cpu);
     add(
         list,
-        update_of_nothing(kind, reasons.size, reasons.table, units.as_slice()),
+        nothing_updated(board, cpu, kind, reasons.size, reasons.table),
     )
 }
 

@@ -33,13 +33,18 @@ fn is_member(updated: Option<Member>, member: Member) -> bool
     }
 }
 
-/// The updated member of a boot.
+/// The updated member of a boot. The units are looked up for an update alone.
 fn updated_in<B: Board>(board: &B, cpu: Cpu, kind: BootKind) -> Option<Member>
     requires power { IsTrue (B.state board.now).powered }
     ensures { result ≡ updated_in (B.state board.now).content cpu kind }
 {
-    let mut units = boot_units_in(board, cpu);
-    order_of(&mut units, kind)
+    match kind {
+        BootKind::Update(_) => {
+            let mut units = boot_units_in(board, cpu);
+            order_of(&mut units, kind)
+        }
+        BootKind::Normal | BootKind::Bootsel => None,
+    }
 }
 
 /// The window of a member without an image that counts, where it has one for the other processor.

@@ -106,7 +106,7 @@ fn cuts_on<'a>(alloc: Global, files: Vec<Vec<u8>>, values: &Values<'a>) -> Done<
     Ok(cuts(alloc, board, values.cpu, values.file, events, bytes)?)
 }
 
-/// Whether an update does what it is for, whatever power is lost in it.
+/// Whether an update does what it is for, wherever it loses power.
 fn check_on<'a>(alloc: Global, files: Vec<Vec<u8>>, values: &Values<'a>) -> Done<'a>
     requires { length files.items ≡ 4 }
     ensures { IsDone verbs.Check values.now (bytes_of_files files.items) result }
