@@ -47,7 +47,8 @@ pub record StartsTheSame (cpu : Cpu) (b : BootMade) : Type 0 where
   pub same : normal.image ≡ choice.image
   pub raises : AllByRecursion IsRaise b.done
 
--- there is a table, and no image of another boot unit has a triple that the boot raises
+-- there is a table, and no image of another boot unit lists a row whose triple shares a row with
+-- one that the boot raises
 pub record RaisesItsOwn (cpu : Cpu) (b : BootMade) : Type 0 where
   pub choice : Choice
   pub chosen : Chosen b.before cpu b.kind (Start choice)
@@ -57,7 +58,8 @@ pub record RaisesItsOwn (cpu : Cpu) (b : BootMade) : Type 0 where
 abbrev pub IsBootKept : Cpu → BootMade → Type 0
 IsBootKept cpu b = StartsTheSame cpu b ⊎ RaisesItsOwn cpu b
 
--- there is a table, and no image of another boot unit has a triple that the buy raises
+-- there is a table, and no image of another boot unit lists a row whose triple shares a row with
+-- one that the buy raises
 pub record IsBuyKept (cpu : Cpu) (b : BuyMade) : Type 0 where
   pub table : table_in b.before ≢ None
   pub apart : AreTriplesApart b.before cpu b.choice.image b.done

@@ -1,7 +1,7 @@
 -- What a loss of power leaves in the steps of a boot or of a buy that is kept.
 use Rattle.std.proofs.Common.{◌≡◌, ◌≢◌, ◌⊎◌, ◌∙◌, ℕ, Bool, true, false, cond, List, [], ◌∷◌, ◌++◌, slice_get, Option, Some, None, refl, sym, ap, subst, inl, inr}
-use Rattle.std.specs.Prelude.{◌&&◌, ◌/◌}
-use Rattle.std.specs.List.{AllByRecursion}
+use Rattle.std.specs.Prelude.{◌&&◌, ◌/◌, Contains}
+use Rattle.std.specs.List.{All, AllByRecursion}
 use Rattle.pico_board.specs.declared.Step.{Step}
 use Rattle.pico_board.specs.declared.step.Step.TheVariants.{Erase}
 use Rattle.pico_board.specs.declared.boot.BootKind.{BootKind}
@@ -131,3 +131,9 @@ buy-kept cpu kind b k step d former right h trial is kept at lucky first =
     own-kept b.before cpu kind b.choice right h (start b.before cpu kind b.choice h).unit
     (of-unit b.before cpu kind b.choice h) table.0 table.1 b.done (inr (trial, is)) kept.apart k step d at lucky former
     first
+
+-- of all writes, one that does the step that is cut
+pub one-kept : {A : Type 0} (done : A → List Step) (kept : A → Type 0) (writes : List A) (w : A) (k : ℕ) (step : Step)
+    → All (λ x. done x ≢ [] → kept x) writes → Contains writes w → slice_get (done w) k ≡ Some step → kept w
+one-kept done kept writes w k step all has at =
+    subst (λ x. done x ≢ [] → kept x) has.2 (all has.0 w has.1) (λ none. no-cut (done w) k step none at)

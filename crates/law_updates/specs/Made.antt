@@ -1,11 +1,12 @@
 -- A boot of a script, or a buy, that does all of its steps.
-use Rattle.std.specs.Prelude.{◌≡◌}
+use Rattle.std.specs.Prelude.{◌≡◌, Some, None}
 use Rattle.pico_board.specs.declared.boot.Cpu.{Cpu}
 use Rattle.slot_choice.specs.declared.choice.Choice.{Choice}
 use Rattle.trial_buy.specs.Starting.{start_steps}
 use Rattle.boot_rules.specs.declared.decision.Decision.TheVariants.{Start}
 use Rattle.boot_rules.specs.Chosen.{Chosen}
-use Rattle.boot_machine.specs.Machines.{MachineView}
+use Rattle.pico_board.specs.Content.{Content}
+use Rattle.boot_machine.specs.Machines.{MachineView, Off}
 use Rattle.law_boot_cuts.specs.Running.{buys}
 use Rattle.check_laws.specs.OwnLaws.{BootMade, BuyMade}
 

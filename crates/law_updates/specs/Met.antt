@@ -24,9 +24,9 @@ StartsWhole Tail = ⊥
 StartsWhole Mixed = ⊥
 StartsWhole Bootsel = ⊥
 
--- Another image starts at the end. No loss of power, and not the whole update, leaves a board that
--- starts nothing, or an image that stands whole neither before nor at the end; and none has a row
--- raised for such an image.
+-- Another image starts at the end. No cut that is counted, and not the whole update, leaves nothing
+-- to start where something did, or starts an image that stands whole neither before nor at the end;
+-- and none has a row raised for such an image.
 pub record LeavesWholeImages (r : ReportView) : Type 0 where
   pub image : r.image ≢ Unchanged
   pub tail : r.cuts.tail ≡ 0

@@ -52,8 +52,8 @@ pub fn a_confined_law_holds()
 
 /// Let `gated` be told of a window, and power be lost in the host's steps, whatever bytes that
 /// tears. Then the next normal boot decides as before them, or makes the start that it makes after
-/// them, of an image with the same bytes. That an unfinished content has no accidental image in the
-/// window is the premise that no file can show.
+/// them, of an image with the same bytes. That an unfinished content has the former table, and no
+/// accidental image in the window, is the premise that no file can show.
 pub fn a_gated_law_holds()
     ensures { (c : Content) (cpu : Cpu) (events : List EventView) (w : Window) (d : Content)
         → IsContent c → IsSessionLaw c cpu events (Gated w)

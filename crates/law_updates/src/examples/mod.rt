@@ -8,7 +8,7 @@ ghost use Rattle.pico_board.specs.declared.boot.Cpu.TheVariants.{Arm};
 ghost use Rattle.pico_board.specs.Content.{Content};
 ghost use Rattle.boot_script.specs.Events.{End, PowerOn};
 ghost use Rattle.boot_session.specs.Sessions.{entered_host};
-ghost use Rattle.check_laws.specs.OwnLaws.{IsBootKept};
+ghost use Rattle.check_laws.specs.OwnLaws.{IsBootKept, IsBuyKept};
 ghost use Rattle.law_updates.specs.Again.{IsNoBlock, NamesRowsOnce};
 ghost use Rattle.law_updates.specs.Examples.{a_buy, an_update, begun_host, first_block, last_choice, row_write, runs_trial};
 ghost use Rattle.law_updates.specs.Targets.{AsksFor, AsksOnce};
@@ -44,7 +44,8 @@ pub fn blocks_that_ask()
     ensures other { (n : ℕ) (c : Content) → AsksFor n (entered_host c) 0xe48bff5a first_block → ⊥ }
 {}
 
-/// A trial image that runs after an update buys itself.
+/// A trial image that runs after an update buys itself. It raises no row, so it is kept.
 pub fn a_buy_of_a_trial()
-    ensures { DoesBuy runs_trial a_buy }
+    ensures does { DoesBuy runs_trial a_buy }
+    ensures kept { IsBuyKept Arm a_buy }
 {}

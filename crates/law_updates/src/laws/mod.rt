@@ -1,9 +1,10 @@
 //! Laws of updates, each the contract of a function that does nothing.
 
-ghost use Rattle.std.specs.Prelude.{◌≡◌, ◌⊎◌, ◌+◌, ℕ, List, [], Option, Some};
+ghost use Rattle.std.specs.Prelude.{◌≡◌, ◌⊎◌, ◌+◌, ℕ, Contains, List, [], Option, Some};
 ghost use Rattle.std.specs.List.{AllByRecursion};
 ghost use Rattle.boot_machine.specs.Machines.{Host, MachineView};
 ghost use Rattle.boot_machine.specs.Serving.{table_of_found};
+ghost use Rattle.boot_plays.specs.Plays.{powerless};
 ghost use Rattle.boot_rules.specs.Chosen.{Chosen};
 ghost use Rattle.boot_rules.specs.declared.decision.Decision.{Decision};
 ghost use Rattle.boot_rules.specs.declared.decision.Decision.TheVariants.{Start};
@@ -16,7 +17,8 @@ ghost use Rattle.check_images.specs.declared.found.ImageFacts.{ImageFacts};
 ghost use Rattle.check_images.specs.Boots.{after_boot};
 ghost use Rattle.check_images.specs.Effects.{IsEffect};
 ghost use Rattle.check_images.specs.Starting.{IsStart};
-ghost use Rattle.check_laws.specs.OwnLaws.{BootMade, BuyMade, IsBootKept, IsBuyKept};
+ghost use Rattle.check_laws.specs.OwnLaws.{BootMade, BuyMade, IsBootKept, IsBootLaw, IsBuyKept, IsBuyLaw, boots_in, buys_in};
+ghost use Rattle.check_require.specs.declared.report.LawOfWrites.TheVariants.{Kept};
 ghost use Rattle.check_records.specs.Unerased.{IsUnerased};
 ghost use Rattle.check_require.specs.Meeting.{unmet};
 ghost use Rattle.check_require.specs.Reports.{ReportView};
@@ -61,11 +63,12 @@ pub fn a_start_goes_on()
         → after_boots (n + 1) z cpu ≡ after_boot z cpu }
 {}
 
-/// What `law boot=kept` says. Let a boot of a script be kept: it starts the image that a normal
-/// boot would start and raises rows alone; or there is a table, and no image of another boot unit
-/// lists a row whose triple shares a row with one that the boot raises. Then what a loss of power
-/// in its steps leaves boots as before it, or starts whole what starts after it. But where an erase
-/// or a program is cut, this may leave an accidental image in the window that the step writes.
+/// Let a boot of a script start an image, do all of its steps, and be kept: it starts the image
+/// that a normal boot would start and raises rows alone; or there is a table, and no image of
+/// another boot unit lists a row whose triple shares a row with one that the boot raises. Then what
+/// a loss of power in its steps leaves boots as before it, or starts whole what starts after it.
+/// But where an erase or a program is cut, this may leave an accidental image in the window that
+/// the step writes.
 pub fn boots_that_are_kept()
     ensures { (cpu : Cpu) (b : BootMade) (choice : Choice) (k : ℕ) (step : Step) (d : Content)
         (former : Decision)
@@ -76,11 +79,12 @@ pub fn boots_that_are_kept()
         → Chosen d cpu Normal former ⊎ StartsFinished (after_all b.before b.done) d cpu }
 {}
 
-/// What `law buy=kept` says, of the buy of a trial image that runs. Let the content before it have
-/// a table, and let no image of another boot unit list a row whose triple shares a row with one
-/// that the buy raises. Then what a loss of power in its steps leaves boots as before it, or starts
-/// whole what starts after it. But where an erase or a program is cut, this may leave an accidental
-/// image in the window that the step writes. So it may start half-written, where it has no digest.
+/// What `law buy=kept` says, of the buy of a trial image that runs, which does all of its steps.
+/// Let the content before it have a table, and let no image of another boot unit list a row whose
+/// triple shares a row with one that the buy raises. Then what a loss of power in its steps leaves
+/// boots as before it, or starts whole what starts after it. But where an erase or a program is
+/// cut, this may leave an accidental image in the window that the step writes. So it may start
+/// half-written, where it has no digest.
 pub fn buys_that_are_kept()
     ensures { (m n : MachineView) (b : BuyMade) (k : ℕ) (step : Step) (d : Content)
         (former : Decision)
@@ -91,6 +95,38 @@ pub fn buys_that_are_kept()
         → Chosen d n.cpu Normal former ⊎ StartsFinished (after_all b.before b.done) d n.cpu }
 {
     a_running_trial_is_chosen();
+}
+
+/// The line `law boot=kept` of a script, brought to its boots. Let a boot of the script start an
+/// image, do all of its steps, and lose power in one of them, whatever bytes that tears. Then what
+/// is left boots as before the boot, or starts whole what starts after it. That the content before
+/// the boot is one of a board is a premise.
+pub fn the_law_of_boots_holds()
+    ensures { (c : Content) (cpu : Cpu) (events : List EventView) (b : BootMade) (choice : Choice)
+        (k : ℕ) (step : Step) (d : Content) (former : Decision)
+        → IsBootLaw c cpu events Kept → Contains (boots_in (powerless c cpu) events) b
+        → IsContent b.before → DoesBoot cpu b choice
+        → IsCutAt b.before b.done k step d
+        → LeavesNoAccidentalImage b.before (after_all b.before b.done) d cpu choice step
+        → Chosen b.before cpu Normal former
+        → Chosen d cpu Normal former ⊎ StartsFinished (after_all b.before b.done) d cpu }
+{}
+
+/// The line `law buy=kept` of a script, brought to its buys. Let a trial image that runs buy itself
+/// in the script, do all steps of that, and lose power in one of them, whatever bytes that tears.
+/// Then what is left boots as before the buy, or starts whole what starts after it. That the content
+/// before the buy is one of a board, and that the image runs on it, are premises.
+pub fn the_law_of_buys_holds()
+    ensures { (c : Content) (events : List EventView) (m n : MachineView) (b : BuyMade) (k : ℕ)
+        (step : Step) (d : Content) (former : Decision)
+        → IsBuyLaw c n.cpu events Kept → Contains (buys_in (powerless c n.cpu) events) b
+        → RunsTrial m n b.choice → IsContent b.before → DoesBuy n b
+        → IsCutAt b.before b.done k step d
+        → LeavesNoAccidentalImage b.before (after_all b.before b.done) d n.cpu b.choice step
+        → Chosen b.before n.cpu Normal former
+        → Chosen d n.cpu Normal former ⊎ StartsFinished (after_all b.before b.done) d n.cpu }
+{
+    buys_that_are_kept();
 }
 
 /// Played again. The events are those of a host, from BOOTSEL on as it is entered on the content c:
@@ -135,8 +171,8 @@ pub fn a_script_that_is_played_often()
 }
 
 /// Which blocks have the same targets, as a script is played again on d which was made for c.
-/// Commands ask for none. Where one block asks, before any step, its family has to have the same
-/// target on d and on c.
+/// Commands ask for none. Where one block alone asks, before any step, it is enough that its family
+/// has the same target on d and on c.
 pub fn targets_that_are_the_same()
     ensures commands { (c d : Content) (cpu : Cpu) (host : Host) (events : List EventView)
         → AllByRecursion IsNoBlock events → HaveSameTargets c d cpu host events }
@@ -148,12 +184,12 @@ pub fn targets_that_are_the_same()
 {}
 
 /// Met, and it goes on. Where nothing is unmet that is asked by default, another image starts at
-/// the end, and each loss of power leaves an image that starts whole: what was there before, or
-/// what is there at the end. No loss, and not the whole update, leaves a board that starts nothing
-/// which did not before, nor a half-written image. Where the update leads from the content c to z,
-/// each of any number of normal boots after z starts the image that is told of z. What the first
-/// one leaves, all leave. So what is told of the image beside it, and of images that are lost,
-/// holds after each.
+/// the end, and each cut that is counted, and the end, decides as before or starts an image that
+/// stands whole before the script or at its end. None leaves nothing to start where something did,
+/// or starts a half-written image. Where the update leads from the content c to z, each of any
+/// number of normal boots after z starts the image that is told of z. What the first one leaves,
+/// all leave. So what is told of the image beside it, and of images that are lost, holds after
+/// each.
 pub fn met_and_it_goes_on()
     ensures cuts { (r : ReportView) → unmet default_require r ≡ [] → LeavesWholeImages r }
     ensures boots { (c z : Content) (cpu : Cpu) (r : ReportView) (starts : Option ImageFacts)

@@ -1,5 +1,34 @@
-use Rattle.std.proofs.Common.{refl}
+-- By computing.
+use Rattle.std.proofs.Common.{◌≡◌, true, refl}
+use Rattle.sha2.specs.Sha256.{compress, digest_bytes, first_words, hash_after, rounds, schedule, sha256}
+use Rattle.std.specs.Int.Count.{ones, ones_in}
+use Rattle.trial_buy.specs.Buying.{page_programs}
+use Rattle.boot_rules.specs.Tables.{table_in}
+use Rattle.boot_rules.specs.Choosing.{decision_in}
+use Rattle.image_check.specs.Image.{image_in}
+use Rattle.image_def.specs.Definition.{def_of}
+use Rattle.block_loop.specs.Loop.{loop_of, follow, block_from}
+use Rattle.block_codec.specs.Blocks.{frame}
+use Rattle.block_codec.specs.Reading.{block_at, front_block, item_words}
+use Rattle.block_codec.specs.Items.{size_of}
+use Rattle.block_codec.specs.Words.{word_of, word_bytes}
+use Rattle.otp_roll.specs.Raises.{lowest_clear}
+use Rattle.pico_board.specs.declared.boot.Cpu.TheVariants.{Arm}
+use Rattle.check_laws.specs.OwnLaws.{raises_own}
+use Rattle.check_laws.proofs.OwnLemmas.{buy-kept}
+use Rattle.law_boot_cuts.specs.Examples.{two_trials}
+use Rattle.law_updates.specs.Examples.{a_buy, trial_choice}
 use Rattle.law_updates.proofs.examples.a_buy_of_a_trial.Goals as goal
 
-pub returns : goal.returns
-returns c = record { before = refl; done = refl }
+raises-own : true ≡ raises_own two_trials Arm trial_choice.image a_buy.done
+unfolding first_words schedule rounds compress hash_after digest_bytes sha256 page_programs ones ones_in
+    lowest_clear table_in decision_in image_in def_of loop_of follow block_from block_at front_block item_words frame
+    size_of word_of word_bytes
+raises-own = refl
+
+pub returns-clause-does : goal.returns-clause-does
+returns-clause-does c = record { before = refl; done = refl }
+
+pub returns-clause-kept : goal.returns-clause-kept
+returns-clause-kept c =
+    (buy-kept two_trials Arm trial_choice.image a_buy.done true raises-own trial_choice refl).0 refl

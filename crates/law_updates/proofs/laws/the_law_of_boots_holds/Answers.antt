@@ -1,0 +1,10 @@
+use Rattle.check_laws.specs.OwnLaws.{BootMade, IsBootKept, boots_in}
+use Rattle.boot_plays.specs.Plays.{powerless}
+use Rattle.law_updates.proofs.MadeLemmas.{boot-kept, one-kept}
+use Rattle.law_updates.proofs.laws.the_law_of_boots_holds.Goals as goal
+
+pub returns : goal.returns
+returns g = λ c cpu events b choice k step d former law among right does at lucky first.
+    boot-kept cpu b choice k step d former right does
+    (one-kept (λ (x : BootMade). x.done) (IsBootKept cpu) (boots_in (powerless c cpu) events) b k step law.1 among
+    at.stands) at lucky first
