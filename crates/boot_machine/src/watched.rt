@@ -6,6 +6,7 @@ ghost use Rattle.sector_pool.specs.Keeping.{KeepsOut};
 ghost use Rattle.sector_pool.specs.Pool.{HasFree};
 ghost use Rattle.part_table.specs.Windows.{IsPlacedWindow};
 ghost use Rattle.slot_choice.specs.Units.{IsSoundFor};
+ghost use Rattle.image_check.specs.Digests.{Knows};
 ghost use Rattle.image_check.specs.Valid.{Valid};
 ghost use Rattle.boot_rules.specs.Choosing.{decision_in};
 ghost use Rattle.boot_rules.specs.Chosen.{Chosen};
@@ -20,6 +21,7 @@ use part_table::Table;
 use pico_board::{Bench, Board, BootKind, Cpu, PAGE, PowerLost, SECTOR};
 use sector_pool::SectorPool;
 use std::marker::Model;
+use std::mem;
 use trial_buy::{better_sector, buy_at, settle_at, start_sector};
 
 /// A board with what is remembered of its table and of the digests of its windows. Contracts see
@@ -67,6 +69,22 @@ impl<B: Board> Watched<B> {
         ensures { result ≡ self }
     {
         self.board
+    }
+
+    /// What is remembered of the digests of the windows. The board remembers none of them then.
+    pub fn take_digests(&mut self) -> Digests
+        ensures knows { Knows result (B.state self.old).content }
+        ensures same { self.new ≡ self.old }
+    {
+        mem::replace(&mut self.digests, Digests::none())
+    }
+
+    /// Has the board remember these digests of its windows, and no others.
+    pub fn give_digests(&mut self, digests: Digests)
+        requires knows { Knows digests (B.state self.old).content }
+        ensures same { self.new ≡ self.old }
+    {
+        self.digests = digests;
     }
 
     /// Decides a boot. The table is looked up, and a digest is made, only where it is not

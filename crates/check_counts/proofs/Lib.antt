@@ -3,5 +3,4 @@ mod StepLemmas
 mod SeenLemmas
 mod TallyLemmas
 mod JudgeLemmas
-mod RecalledLemmas
 pub mod RuleLemmas

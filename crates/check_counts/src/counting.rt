@@ -17,10 +17,10 @@ ghost use Rattle.check_counts.specs.Tallies.{tally_before, tally_of, with_all};
 
 use crate::counts::Counts;
 use crate::judging::Counting;
-use crate::recalled::Recalled;
 use crate::seen::seen_first;
 use boot_caveats::caveats_of;
 use boot_cuts::{Class, Ends, class_on, images_of, left_torn, pool_of, slot_beside, steps_of};
+use boot_machine::Watched;
 use boot_rules::{Decision, decide, find_table};
 use boot_sweep::{Ends as SweepEnds, each_cut};
 use boot_tape::{Move, Trace, copy_of};
@@ -81,7 +81,7 @@ fn counts_by(
 {
     let board = counting.ends.start;
     let copy = copy_of(counting.alloc, board)?;
-    let mut beside = Recalled::new(copy);
+    let mut beside = Watched::new(copy);
     let steps = steps_of(counting.alloc, moves)?;
     let slot = slot_beside(board, counting.ends.ends.cpu, &steps, moves);
     let mut counts = counts_before(counting, pool)?;

@@ -12,10 +12,11 @@ ghost use Rattle.check_counts.specs.Facts.{has_other_table, is_on_other_data, is
 ghost use Rattle.check_counts.specs.Judging.{IsReady, sides_by, told};
 ghost use Rattle.check_counts.specs.Tallies.{tally_of, with_facts};
 
+use crate::caveats::caveats_on;
 use crate::counts::Counts;
 use crate::facts::CutFacts;
-use crate::recalled::Recalled;
 use boot_cuts::{Answer, Class, Ends, is_same_class};
+use boot_machine::Watched;
 use boot_rules::{Found, find_table};
 use boot_sweep::{Judge, Last, Slot};
 use check_data::{DataWindow, Ends as DataEnds, is_other_data, starts_early};
@@ -98,7 +99,7 @@ fn has_other_table(counting: &Counting<'_>, board: &MemBoard) -> bool
 /// What is told of a board of which a normal boot makes this.
 fn facts_by(
     counting: &Counting<'_>,
-    board: &mut Recalled,
+    board: &mut Watched<MemBoard>,
     pool: &mut SectorPool,
     answer: Answer,
 ) -> Result<CutFacts, AllocError>
@@ -117,11 +118,11 @@ fn facts_by(
     let other_data = other_data_on(counting, here, &answer)?;
     let raises = is_raising(counting, here, &answer);
     let other_table = has_other_table(counting, here);
-    let caveats = board.caveats(counting.alloc, pool, counting.ends.ends.cpu)?;
+    let caveats = caveats_on(counting.alloc, board, pool, counting.ends.ends.cpu)?;
     Ok(CutFacts::new(answer, early, other_data, raises, other_table, caveats))
 }
 
-impl Judge<Recalled> for Counting<'_> {
+impl Judge<Watched<MemBoard>> for Counting<'_> {
     type Answer = CutFacts;
 
     type Found = Counts;
@@ -142,12 +143,12 @@ impl Judge<Recalled> for Counting<'_> {
 
     fn judge(
         &self,
-        board: &mut Recalled,
+        board: &mut Watched<MemBoard>,
         pool: &mut SectorPool,
         slot: Option<Slot>,
         last: &mut Option<Last>,
     ) -> Result<CutFacts, AllocError> {
-        let answer = board.answer(pool, &self.ends, slot, last)?;
+        let answer = self.ends.judge(board, pool, slot, last)?;
         facts_by(self, board, pool, answer)
     }
 

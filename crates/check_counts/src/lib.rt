@@ -6,13 +6,13 @@
 //! function, and `specs/Rules` has them as rules. `specs/Tallies` takes one cut after another.
 #![tactic(auto)]
 
+mod caveats;
 mod counting;
 mod counts;
 pub mod examples;
 mod facts;
 mod judging;
 pub mod laws;
-mod recalled;
 mod seen;
 
 pub use counting::{Counted, counts_of};
