@@ -1,4 +1,4 @@
--- When the loss of power in a window left no image there by chance: HasNoAccidentalImage.
+-- When a loss of power in a window left no accidental image there: HasNoAccidentalImage.
 use Rattle.std.specs.Prelude.{◌≡◌, ◌⊎◌, false}
 use Rattle.pico_board.specs.declared.boot.Cpu.{Cpu}
 use Rattle.pico_board.specs.declared.window.Window.{Window}

@@ -14,8 +14,8 @@ use pico_board::{BootKind, Cpu, MemBoard};
 use sector_pool::SectorPool;
 use std::alloc::{AllocError, Global};
 
-/// The caveats of a normal boot on the board. A digest is made only where it is not remembered, also
-/// by what a decision made.
+/// The caveats of a normal boot on the board. A digest is made only where the board does not
+/// remember it.
 pub(crate) fn caveats_on(
     alloc: Global,
     board: &mut Watched<MemBoard>,

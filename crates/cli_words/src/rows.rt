@@ -33,7 +33,7 @@ pub enum Verb {
     Chart,
     /// What a normal boot makes of each loss of power in a script.
     Cuts,
-    /// Whether an update does what it is for, whatever power is lost in it.
+    /// Whether an update does what it is for, also where it loses power.
     Check,
     /// Whether an update meets what is asked of it.
     CheckAsked,
