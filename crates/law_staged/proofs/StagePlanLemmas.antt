@@ -176,6 +176,20 @@ module _ (known : Known) (says : KnownStage) (c : Content) (cpu : Cpu) (w : Wind
             (front-off known c cpu w right slot image room page low holds is_bought);
       }
 
+some-bytes : (xs : List ℕ) → (xs ≡ [] → ⊥) → 0 < length xs
+some-bytes [] none = absurd (none refl)
+some-bytes (x ∷ xs) none = omega arith
+
+-- the page that is written last is one of the first sector, and it has a byte of the image
+pub page-of : (c : Content) (cpu : Cpu) (image out : List ℕ) (o : _) (is : IsStageOf c cpu image out o)
+    → (is.first.at / 256 < 16) × (256 * (is.first.at / 256) < length image)
+page-of c cpu image out o is =
+    let low = is.begins.low in
+    let some = some-bytes image is.plain.fits.some in
+    let inside =
+    begins-inside image (window_bytes c is.target.window) is.first.at is.first some low is.begins.stands in
+    (omega (arith, low), omega (arith, inside))
+
 -- the outcome of `stage`
 pub stage-of : (known : Known) (says : KnownStage) (c : Content) (cpu : Cpu) (image out : List ℕ) (o : _)
     (is : IsStageOf c cpu image out o) (es : List EventView) → IsContent c → ((k : ℕ) → get_or image k 0 < 256)
@@ -185,15 +199,7 @@ pub stage-of : (known : Known) (says : KnownStage) (c : Content) (cpu : Cpu) (im
     → is.is_staged ≡ true → Staged c (session c cpu es) is.target.window cpu
 stage-of known says c cpu image out o is es right small of may reads staged =
     let w = is.target.window in
-    let old = window_bytes c w in
     let lone = is.order.0 staged in
-    let low = is.begins.low in
-    let some = some-bytes image is.plain.fits.some in
-    let inside = begins-inside image old is.first.at is.first some low is.begins.stands in
+    let page = page-of c cpu image out o is in
     stage-staged known says c cpu w image (is.first.at / 256) is.is_bought es right of is.plain.fits.few
-    (omega (arith, low)) (omega (arith, inside)) reads may small is.started is.valid is.first is.begins refl
-    lone.0 lone.1 lone.2
-  where
-    some-bytes : (xs : List ℕ) → (xs ≡ [] → ⊥) → 0 < length xs
-    some-bytes [] none = absurd (none refl)
-    some-bytes (x ∷ xs) none = omega arith
+    page.0 page.1 reads may small is.started is.valid is.first is.begins refl lone.0 lone.1 lone.2

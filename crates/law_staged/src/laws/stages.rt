@@ -66,6 +66,14 @@ pub fn the_session_of_a_stage()
     a_range_is_allowed_byte_by_byte();
 }
 
+/// The page that a script of `stage` writes last is one of the slot's first sector and has a byte of
+/// the image, as the law above asks.
+pub fn the_last_page_of_a_stage_is_the_images()
+    ensures { (c : Content) (cpu : Cpu) (image out : List ℕ) (o : AnswerView)
+        (is : IsStageOf c cpu image out o)
+        → (is.first.at / 256 < 16) × (256 * (is.first.at / 256) < length image) }
+{}
+
 /// Where `stage` prints `order=staged` for a slot of which each byte may be written, the session of
 /// its script is staged on that slot. So the laws above hold of it.
 pub fn a_stage_is_staged()
