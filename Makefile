@@ -8,7 +8,7 @@
 # make pack       writes the small rows anew as the text that test_rows reads
 # make examples   writes the files that the documents take as examples into examples/
 # make readme     runs each session of the documents with the newer of the two programs, and compares the manual page, the
-#                 completions, the page of faults, the places that RULES names and the sizes of the pages; needs bash, and tries zsh and mandoc where they are
+#                 completions, the page of faults, the places that RULES names, the layers and the sizes of the pages; needs bash, and tries zsh and mandoc where they are
 # make interface  writes the completions and the manual's synopsis anew, as the program's own --help has them
 # make faults     compares the page of faults with the program's code; needs no program
 # make faults-io  makes each file call of each command fail in turn; needs strace
@@ -82,7 +82,7 @@ examples:
 	@$(NEWER); python3 tools/examples.py "$$program" examples
 
 readme: faults
-	@$(NEWER); python3 tools/interface.py "$$program" && python3 tools/pages.py && python3 tools/rules.py && python3 tools/sessions.py "$$program" $(SESSIONS)
+	@$(NEWER); python3 tools/interface.py "$$program" && python3 tools/pages.py && python3 tools/layers.py && python3 tools/rules.py && python3 tools/sessions.py "$$program" $(SESSIONS)
 
 interface:
 	@$(NEWER); python3 tools/interface.py --write "$$program"
