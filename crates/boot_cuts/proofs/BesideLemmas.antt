@@ -24,9 +24,9 @@ use Rattle.boot_sweep.specs.Comparing.{is_same_decision, is_same_image}
 use Rattle.boot_sweep.specs.Verdicts.{LiesIn, verdict_by}
 use Rattle.boot_sweep.proofs.ResultLemmas.{decision-same, is-same, same-decision, start-holds}
 use Rattle.boot_cuts.specs.declared.answers.Answer.{Answer}
-use Rattle.boot_cuts.specs.declared.answers.Class.{Class}
-use Rattle.boot_cuts.specs.declared.answers.Class.TheVariants.{Former, Finished}
-use Rattle.boot_tape.specs.declared.moves.Move.{Move}
+use Rattle.cut_class.specs.declared.class.Class.{Class}
+use Rattle.cut_class.specs.declared.class.Class.TheVariants.{Former, Finished}
+use Rattle.boot_sweep.specs.declared.moves.Move.{Move}
 use Rattle.boot_cuts.specs.Beside.{IsMoveBeside, StartsApart}
 use Rattle.boot_cuts.specs.Classing.{class_by, has_image_of, is_as_on, is_mended, other_class}
 use Rattle.pico_board.specs.MemBoard.{state_of}

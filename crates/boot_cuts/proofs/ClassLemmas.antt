@@ -27,8 +27,8 @@ use Rattle.boot_sweep.specs.Comparing.{agree_on, is_same_started}
 use Rattle.boot_sweep.specs.Moving.{MoveView}
 use Rattle.boot_sweep.proofs.ResultLemmas.{agree-is, decision-same, is-agree, is-same, same-decision, same-is, same-started, start-holds}
 use Rattle.boot_cuts.specs.declared.answers.Answer.{Answer}
-use Rattle.boot_cuts.specs.declared.answers.Class.{Class}
-use Rattle.boot_cuts.specs.declared.answers.Class.TheVariants as classes
+use Rattle.cut_class.specs.declared.class.Class.{Class}
+use Rattle.cut_class.specs.declared.class.Class.TheVariants as classes
 use Rattle.boot_cuts.specs.Answers.{answer_of}
 use Rattle.boot_cuts.specs.Classes.{HasImageOf, IsClass, IsFinished, IsFormer, IsTail, IsWhole, StoodIn, furthest}
 use Rattle.boot_cuts.specs.Classing.{agrees_to_end, class_of, has_image_of, is_as_on, is_image, is_mended, is_tail, is_unmapped, other_class, stands_in, stood_in}

@@ -11,7 +11,7 @@ use Rattle.pico_board.specs.Steps.{after}
 use Rattle.boot_rules.specs.declared.decision.Decision.{Decision}
 use Rattle.boot_rules.specs.Choosing.{decision_in}
 use Rattle.boot_script.specs.Events.{EventView}
-use Rattle.boot_tape.specs.declared.moves.Move.{Move}
+use Rattle.boot_sweep.specs.declared.moves.Move.{Move}
 use Rattle.boot_cuts.specs.declared.runs.Run.{Run}
 use Rattle.boot_tape.specs.declared.trace.Trace.{Trace}
 use Rattle.boot_cuts.specs.Answers.{answer_of, answers}

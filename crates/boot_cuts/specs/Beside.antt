@@ -6,7 +6,7 @@ use Rattle.pico_board.specs.Content.{AreApart}
 use Rattle.boot_rules.specs.declared.decision.Decision.{Decision}
 use Rattle.boot_sweep.specs.declared.slots.Slot.{Slot}
 use Rattle.boot_sweep.specs.Verdicts.{LiesIn}
-use Rattle.boot_tape.specs.declared.moves.Move.{Move}
+use Rattle.boot_sweep.specs.declared.moves.Move.{Move}
 use Rattle.boot_tape.specs.Moving.{MoveView, Done, Torn, moves_from}
 use Rattle.boot_rules.specs.declared.decision.Decision.TheVariants.{Start, Bootsel}
 

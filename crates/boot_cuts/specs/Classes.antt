@@ -14,8 +14,8 @@ use Rattle.boot_rules.specs.declared.decision.Decision.TheVariants as decisions
 use Rattle.boot_rules.specs.declared.decision.Fall.{Fall}
 use Rattle.boot_rules.specs.Chosen.{Chosen}
 use Rattle.boot_sweep.specs.Moving.{MoveView}
-use Rattle.boot_cuts.specs.declared.answers.Class.{Class}
-use Rattle.boot_cuts.specs.declared.answers.Class.TheVariants.{Former, Finished, Whole, Tail, Mixed, Bootsel}
+use Rattle.cut_class.specs.declared.class.Class.{Class}
+use Rattle.cut_class.specs.declared.class.Class.TheVariants.{Former, Finished, Whole, Tail, Mixed, Bootsel}
 use Rattle.boot_cuts.specs.Tears.{IsLeftTorn}
 
 -- where the decision is a start of an image, d has that image's bytes as b has them

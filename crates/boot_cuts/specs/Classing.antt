@@ -16,8 +16,8 @@ use Rattle.boot_rules.specs.declared.decision.Decision.{Decision}
 use Rattle.boot_rules.specs.declared.decision.Decision.TheVariants as decisions
 use Rattle.boot_rules.specs.Choosing.{decision_in, images_in}
 use Rattle.boot_sweep.specs.Comparing.{agree_on, is_same_decision, is_same_image, is_same_started}
-use Rattle.boot_cuts.specs.declared.answers.Class.{Class}
-use Rattle.boot_cuts.specs.declared.answers.Class.TheVariants.{Former, Finished, Whole, Tail, Mixed, Bootsel}
+use Rattle.cut_class.specs.declared.class.Class.{Class}
+use Rattle.cut_class.specs.declared.class.Class.TheVariants.{Former, Finished, Whole, Tail, Mixed, Bootsel}
 use Rattle.boot_cuts.specs.Classes.{furthest}
 use Rattle.boot_cuts.specs.Tears.{is_left_torn}
 

@@ -1,9 +1,9 @@
 -- How many cuts are of a class.
 use Rattle.std.specs.Prelude.{ℕ, ◌+◌, ◌-◌, Bool, if◌then◌else◌, List, [], ◌∷◌, count_by}
 use Rattle.boot_cuts.specs.declared.answers.Answer.{Answer}
-use Rattle.boot_cuts.specs.declared.answers.Class.{Class}
+use Rattle.cut_class.specs.declared.class.Class.{Class}
 use Rattle.boot_cuts.specs.declared.runs.Run.{Run}
-use Rattle.boot_cuts.specs.Runs.{is_same_class}
+use Rattle.cut_class.specs.Classes.{is_same_class}
 
 -- the answer is of this class
 abbrev pub has_class : Class → Answer → Bool

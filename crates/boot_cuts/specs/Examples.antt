@@ -13,7 +13,7 @@ use Rattle.boot_rules.specs.declared.decision.Fall.TheVariants.{FlashOff, NoImag
 use Rattle.worked_flashes.specs.Choices.{starts_alone}
 use Rattle.worked_flashes.specs.Images.{arm_type, plain_image, window_with}
 use Rattle.boot_cuts.specs.declared.answers.Answer.{Answer}
-use Rattle.boot_cuts.specs.declared.answers.Class.{Class}
+use Rattle.cut_class.specs.declared.class.Class.{Class}
 use Rattle.boot_cuts.specs.declared.runs.Run.{Run}
 
 -- a flash that is an Arm image of 28 bytes, which begins at this PC

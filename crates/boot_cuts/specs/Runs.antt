@@ -3,8 +3,7 @@ use Rattle.std.specs.Prelude.{ℕ, ◌+◌, ◌&&◌, Bool, true, false, if◌th
 use Rattle.equal_runs.specs.Runs.{RunOf, AreRuns as AreEqualRuns}
 use Rattle.boot_sweep.specs.Comparing.{is_same_decision}
 use Rattle.boot_cuts.specs.declared.answers.Answer.{Answer}
-use Rattle.boot_cuts.specs.declared.answers.Class.{Class}
-use Rattle.boot_cuts.specs.declared.answers.Class.TheVariants.{Former, Finished, Whole, Tail, Mixed, Bootsel}
+use Rattle.cut_class.specs.Classes.{is_same_class}
 use Rattle.boot_cuts.specs.declared.runs.Run.{Run}
 use Rattle.boot_cuts.specs.declared.runs.Runs.{Runs}
 
@@ -16,15 +15,6 @@ run_view run = record { first = run.first; last = run.last; entry = run.answer }
 -- one decision, and neighbours differ. So each is as long as can be.
 abbrev pub AreRuns : List Answer → List Run → Type 0
 AreRuns answers runs = AreEqualRuns answers (map run_view runs)
-
-abbrev pub is_same_class : Class → Class → Bool
-is_same_class Former Former = true
-is_same_class Finished Finished = true
-is_same_class Whole Whole = true
-is_same_class Tail Tail = true
-is_same_class Mixed Mixed = true
-is_same_class Bootsel Bootsel = true
-is_same_class _ _ = false
 
 -- the class and the decision are the same
 abbrev pub is_same_answer : Answer → Answer → Bool

@@ -1,27 +1,7 @@
 //! The answers of cuts.
 
-ghost use Rattle.std.specs.Prelude.{◌≡◌};
-ghost use Rattle.boot_cuts.specs.Runs.{is_same_class};
-
 use boot_rules::Decision;
-
-/// What a normal boot makes of a loss of power, beside the script that it falls in: the first of
-/// these that holds.
-#[derive(Clone, Copy, Debug, PartialEq, Eq)]
-pub enum Class {
-    /// It decides as before the script, and where it starts an image, with the bytes of before.
-    Former,
-    /// It starts the image that it starts after the whole script, with the same bytes.
-    Finished,
-    /// It starts an image that stands whole before the script or after it.
-    Whole,
-    /// It starts an image of after the script that lacks only what stands behind its last block.
-    Tail,
-    /// It starts an image that stands whole neither before the script nor after it.
-    Mixed,
-    /// It falls to BOOTSEL.
-    Bootsel,
-}
+use cut_class::Class;
 
 /// What a normal boot makes of a loss of power: its class, and the decision.
 #[derive(Debug, Drop)]
@@ -30,19 +10,4 @@ pub struct Answer {
     pub class: Class,
     /// The decision.
     pub decision: Decision,
-}
-
-/// Whether the classes are the same.
-pub fn is_same_class(one: Class, two: Class) -> bool
-    ensures { result ≡ is_same_class one two }
-{
-    match (one, two) {
-        (Class::Former, Class::Former)
-        | (Class::Finished, Class::Finished)
-        | (Class::Whole, Class::Whole)
-        | (Class::Tail, Class::Tail)
-        | (Class::Mixed, Class::Mixed)
-        | (Class::Bootsel, Class::Bootsel) => true,
-        _ => false,
-    }
 }

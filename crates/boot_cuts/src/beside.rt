@@ -14,11 +14,12 @@ ghost use Rattle.boot_sweep.specs.Verdicts.{Knows, verdict_by};
 ghost use Rattle.boot_cuts.specs.Beside.{StartsApart};
 ghost use Rattle.boot_cuts.specs.Judging.{AreEnds, judge};
 
-use crate::answers::{Answer, Class};
+use crate::answers::Answer;
 use crate::judging::{Ends, answer_on, class_on};
 use boot_machine::Watched;
 use boot_rules::Decision;
 use boot_sweep::{Last, Slot, Verdict, verdict_beside};
+use cut_class::Class;
 use pico_board::{MemBoard, Window};
 use sector_pool::SectorPool;
 use std::alloc::AllocError;

@@ -13,7 +13,6 @@ ghost use Rattle.boot_cuts.specs.Found.{AreCutsFound, AreCutsOf};
 ghost use Rattle.boot_tape.specs.Moving.{done_steps, moves_from};
 ghost use Rattle.boot_tape.specs.Playing.{IsTraceOf};
 
-use crate::answers::Class;
 use crate::images::images_of;
 use crate::judging::{Ends, class_on};
 use crate::runs::Run;
@@ -24,6 +23,7 @@ use boot_rules::{Decision, decide};
 use boot_script::Script;
 use boot_sweep::{Ends as SweepEnds, Slot, slot_of};
 use boot_tape::{Move, Trace, copy_of, trace_on};
+use cut_class::Class;
 use pico_board::{BootKind, Cpu, MemBoard, Step};
 use sector_pool::SectorPool;
 use std::alloc::{AllocError, Global};

@@ -16,7 +16,7 @@ ghost use Rattle.boot_cuts.specs.Judging.{AreEnds};
 ghost use Rattle.boot_cuts.specs.Standings.{AreStanding, LiesInside};
 ghost use Rattle.boot_cuts.specs.Tears.{is_left_torn};
 
-use crate::answers::{Answer, Class};
+use crate::answers::Answer;
 use crate::images::stands_in;
 use crate::standing::Standing;
 use crate::tails::{agrees_to_end, is_unmapped};
@@ -24,6 +24,7 @@ use crate::tears::is_left_torn;
 use boot_machine::Watched;
 use boot_rules::Decision;
 use boot_sweep::{Ends as SweepEnds, is_same_decision};
+use cut_class::Class;
 use image_check::{Started, same_content};
 use pico_board::{Board, BootKind, Cpu, FlashView, MemBoard, Step};
 use sector_pool::SectorPool;

@@ -21,7 +21,8 @@ mod tails;
 mod tears;
 mod walking;
 
-pub use answers::{Answer, Class, is_same_class};
+pub use answers::Answer;
+pub use cut_class::{Class, is_same_class};
 pub use found::{Cuts, cuts_of, cuts_on, pool_of, slot_beside, steps_of};
 pub use images::images_of;
 pub use judging::{Ends, class_on};

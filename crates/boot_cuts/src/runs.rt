@@ -4,8 +4,9 @@ ghost use Rattle.std.specs.Prelude.{◌≡◌, ◌+◌, ◌^◌, ◌<◌, ◌∷
 ghost use Rattle.boot_cuts.specs.declared.answers.Answer.{Answer as Told};
 ghost use Rattle.boot_cuts.specs.Runs.{all_runs, is_same_answer, next_runs, option_list};
 
-use crate::answers::{Answer, is_same_class};
+use crate::answers::Answer;
 use boot_sweep::is_same_decision;
+use cut_class::is_same_class;
 use std::alloc::{AllocError, Global};
 
 /// As many cuts, one after the other, as have one class and one decision. Cut 2k is the loss of

@@ -30,7 +30,7 @@ use Rattle.boot_sweep.specs.declared.results.CutResult.{CutResult}
 use Rattle.boot_sweep.specs.declared.results.CutResult.TheVariants.{Former, Finished, Chance}
 use Rattle.pico_board.specs.Windows.{is_same_window}
 use Rattle.boot_sweep.specs.Comparing.{agree_on, agree_on_blocks, agree_on_load, agree_on_loads, agree_on_loop, agree_on_map, agree_on_storage, is_same_choice, is_same_decision, is_same_fall, is_same_image, is_same_member, is_same_number, is_same_other, is_same_started, is_same_truth, is_same_version, is_whole, result_of}
-use Rattle.boot_sweep.specs.Results.{IsCutResult, IsFormer}
+use Rattle.boot_sweep.specs.Results.{IsCutResult, DecidesAsBefore}
 use Rattle.boot_session.specs.CutSessions.{StartsFinished}
 
 pub agree-is : (one two : List ℕ) (from n : ℕ) → agree_on one two from n ≡ true
@@ -295,13 +295,13 @@ decision-self (Bootsel f) = fall-self f
 pub decision-same : (d e : Decision) → d ≡ e → is_same_decision d e ≡ true
 decision-same d e is = subst (λ x. is_same_decision d x ≡ true) is (decision-self d)
 
-former-is : (c d : Content) (cpu : Cpu) → IsFormer c d cpu
+former-is : (c d : Content) (cpu : Cpu) → DecidesAsBefore c d cpu
     → is_same_decision (decision_in d cpu Normal) (decision_in c cpu Normal) ≡ true
 former-is c d cpu f =
     decision-same _ _ (sym (chosen-decision d cpu Normal f.0 f.2) ∙ chosen-decision c cpu Normal f.0 f.1)
 
 is-former : (c d : Content) (cpu : Cpu)
-    → is_same_decision (decision_in d cpu Normal) (decision_in c cpu Normal) ≡ true → IsFormer c d cpu
+    → is_same_decision (decision_in d cpu Normal) (decision_in c cpu Normal) ≡ true → DecidesAsBefore c d cpu
 is-former c d cpu e =
     let same = same-decision _ _ e in (
       decision_in c cpu Normal,

@@ -1,6 +1,5 @@
 -- These definitions are this project's own, except where a comment names a public source.
 pub mod Comparing
-pub mod Doings
 pub mod EachCut
 pub mod Firms
 pub mod Gating

@@ -1,14 +1,23 @@
 -- What is done to a board, step by step. Some steps complete, and others are cut on their way.
-use Rattle.std.specs.Prelude.{ℕ, ◌+◌, Bool, List, [], ◌∷◌}
+use Rattle.std.specs.Prelude.{ℕ, ◌+◌, Bool, List, [], ◌∷◌, map}
 use Rattle.pico_board.specs.declared.Step.{Step}
 use Rattle.pico_board.specs.Content.{Content}
 use Rattle.pico_board.specs.Cuts.{IsPattern, cut_by, cut_with}
 use Rattle.pico_board.specs.Steps.{IsStepIn, after}
+use Rattle.boot_sweep.specs.declared.moves.Move.{Move}
+use Rattle.boot_sweep.specs.declared.moves.Move.TheVariants as rust
 
 -- a step that completes, or one that is cut, within it or before it, which leaves the pattern
 pub data MoveView : Type 0 where
   Done : (step : Step) → MoveView
   Torn : (step : Step) → (within : Bool) → (pattern : List ℕ) → MoveView
+
+abbrev pub move_from : Move → MoveView
+move_from (rust.Done step) = Done step
+move_from (rust.Torn step within pattern) = Torn step within pattern.now
+
+abbrev pub moves_from : List Move → List MoveView
+moves_from moves = map move_from moves
 
 -- the step that is done or cut
 abbrev pub moved_step : MoveView → Step

@@ -9,13 +9,13 @@ use Rattle.boot_sweep.specs.declared.results.CutResult.{CutResult}
 use Rattle.boot_sweep.specs.declared.results.CutResult.TheVariants.{Former, Finished, Chance}
 
 -- a normal boot on d decides as one on c
-abbrev pub IsFormer : Content → Content → Cpu → Type 0
-IsFormer c d cpu = (e : Decision) × Chosen c cpu Normal e × Chosen d cpu Normal e
+abbrev pub DecidesAsBefore : Content → Content → Cpu → Type 0
+DecidesAsBefore c d cpu = (e : Decision) × Chosen c cpu Normal e × Chosen d cpu Normal e
 
 -- CutResult: what a normal boot on d makes of a session that leads from c to z. It decides as
 -- before. Otherwise it makes the start that it makes after the whole session, of an image with the
 -- same bytes; or neither.
 abbrev pub IsCutResult : Content → Content → Content → Cpu → CutResult → Type 0
-IsCutResult c z d cpu Former = IsFormer c d cpu
-IsCutResult c z d cpu Finished = (IsFormer c d cpu → ⊥) × StartsFinished z d cpu
-IsCutResult c z d cpu Chance = (IsFormer c d cpu → ⊥) × (StartsFinished z d cpu → ⊥)
+IsCutResult c z d cpu Former = DecidesAsBefore c d cpu
+IsCutResult c z d cpu Finished = (DecidesAsBefore c d cpu → ⊥) × StartsFinished z d cpu
+IsCutResult c z d cpu Chance = (DecidesAsBefore c d cpu → ⊥) × (StartsFinished z d cpu → ⊥)

@@ -11,8 +11,8 @@ ghost use Rattle.boot_sweep.specs.Moving.{IsMoveIn, MoveView, after_move, after_
 ghost use Rattle.boot_sweep.specs.Verdicts.{LiesIn};
 
 use crate::act::Act;
-use crate::doing::Doing;
 use crate::judge::Judge;
+use crate::moves::Move;
 use crate::slots::{Last, Slot};
 use crate::steps::{complete, cut};
 use pico_board::{Bench, Step};
@@ -101,10 +101,10 @@ fn judge_act<B: Bench, J: Judge<B>, A: Act>(
         → J.has_room found.new (done_count moves)) }
     ensures kept { KeepsOut pool.old pool.new }
 {
-    match act.doing() {
-        Doing::Done(step) => judge_step(board, pool, judge, slot, last, found, step, pattern),
-        Doing::Torn(step, within, own) => {
-            cut(board, step, within, own);
+    match act.as_move() {
+        Move::Done(step) => judge_step(board, pool, judge, slot, last, found, &step, pattern),
+        Move::Torn(step, within, own) => {
+            cut(board, &step, within, own);
             Ok(())
         }
     }

@@ -15,7 +15,7 @@ use Rattle.boot_session.proofs.PlanStepLemmas.{all-append}
 use Rattle.boot_tape.specs.declared.trace.Trace.{Trace}
 use Rattle.boot_tape.specs.declared.trace.ArmedCut.{ArmedCut}
 use Rattle.boot_tape.specs.declared.tracer.Tracer.{Tracer}
-use Rattle.boot_tape.specs.declared.moves.Move.{Move}
+use Rattle.boot_sweep.specs.declared.moves.Move.{Move}
 use Rattle.boot_tape.specs.Moving.{AreMovesIn, IsMoveIn, MoveView, Done, Torn, move_from, after_move, after_moves, done_count, moves_from, traced_by}
 use Rattle.boot_tape.specs.Playing.{CutMoves, HasCompleted, HasLost, IsLeftBy, cut_from, cut_moves, move_first, told_of}
 use Rattle.boot_tape.specs.Traces.{completed, traced_from}

@@ -1,23 +1,15 @@
 -- What a script does to a board, step by step. Some steps complete, and the script's own cuts cut
 -- others.
-use Rattle.std.specs.Prelude.{ℕ, Bool, true, List, [], ◌∷◌, map}
+use Rattle.std.specs.Prelude.{ℕ, Bool, true, List, [], ◌∷◌}
 use Rattle.std.specs.List.{AllByRecursion}
 use Rattle.pico_board.specs.declared.Step.{Step}
 use Rattle.pico_board.specs.Content.{Content}
 use Rattle.pico_board.specs.Cuts.{cut_by, cut_with}
 use Rattle.pico_board.specs.Steps.{after}
-use Rattle.boot_tape.specs.declared.moves.Move.{Move}
-use Rattle.boot_tape.specs.declared.moves.Move.TheVariants as rust
+use Rattle.boot_sweep.specs.declared.moves.Move.{Move}
 use Rattle.boot_tape.specs.Traces.{Traced}
 -- a step that completes, or one that a cut of the script cuts, and what it leaves
-pub use Rattle.boot_sweep.specs.Moving.{MoveView, Done, Torn, IsMoveIn, after_move, after_moves, done_count}
-
-abbrev pub move_from : Move → MoveView
-move_from (rust.Done step) = Done step
-move_from (rust.Torn step within pattern) = Torn step within pattern.now
-
-abbrev pub moves_from : List Move → List MoveView
-moves_from moves = map move_from moves
+pub use Rattle.boot_sweep.specs.Moving.{MoveView, Done, Torn, IsMoveIn, after_move, after_moves, done_count, move_from, moves_from}
 
 -- the step of each lies in a flash of n bytes, and a pattern is as a bench asks
 abbrev pub AreMovesIn : ℕ → List Move → Type 0

@@ -5,19 +5,17 @@
 //! and what the loss of power leaves in `pico_board`.
 #![tactic(auto)]
 
-mod acting;
 mod copying;
 pub mod examples;
 pub mod laws;
-mod moves;
 mod notes;
 mod playing;
 mod trace;
 mod tracer;
 mod tracing;
 
+pub use boot_sweep::Move;
 pub use copying::copy_of;
-pub use moves::Move;
 pub use notes::{Behind, Doer, Note, doers_of};
 pub use playing::trace_on;
 pub use trace::Trace;

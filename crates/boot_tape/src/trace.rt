@@ -7,9 +7,8 @@ ghost use Rattle.boot_tape.specs.Playing.{HasCompleted, HasLost, HasPattern, Has
 ghost use Rattle.boot_tape.specs.declared.notes.Behind.TheVariants.{Nothing};
 ghost use Rattle.text_lines.specs.declared.outcome.EventOutcome.TheVariants.{CutArmed};
 
-use crate::moves::Move;
 use crate::notes::{Behind, Came, Note};
-use boot_sweep::{complete, cut};
+use boot_sweep::{Move, complete, cut};
 use pico_board::{MemBoard, Step};
 use std::alloc::{AllocError, Global};
 use text_lines::EventOutcome;

@@ -8,9 +8,9 @@ use Rattle.slot_caveats.specs.declared.caveat.Caveat.{Caveat}
 use Rattle.check_data.specs.Early.{starts_early_by}
 use Rattle.pico_board.specs.Content.{Content}
 use Rattle.boot_cuts.specs.declared.answers.Answer.{Answer}
-use Rattle.boot_cuts.specs.declared.answers.Class.TheVariants.{Mixed}
+use Rattle.cut_class.specs.declared.class.Class.TheVariants.{Mixed}
 use Rattle.boot_cuts.specs.Answers.{answer_of}
-use Rattle.boot_cuts.specs.Runs.{is_same_class}
+use Rattle.cut_class.specs.Classes.{is_same_class}
 use Rattle.check_images.specs.Raising.{boot_raises}
 use Rattle.check_counts.specs.Facts.{Sides, caveats_on, facts_of, has_other_table, is_early, is_on_other_data, is_raising}
 

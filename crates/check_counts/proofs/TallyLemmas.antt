@@ -10,12 +10,12 @@ use Rattle.pico_board.specs.Steps.{after}
 use Rattle.pico_board.specs.declared.Step.{Step}
 use Rattle.boot_script.specs.Events.{EventView}
 use Rattle.boot_sweep.specs.EachCut.{AreTaken}
-use Rattle.boot_tape.specs.declared.moves.Move.{Move}
+use Rattle.boot_sweep.specs.declared.moves.Move.{Move}
 use Rattle.boot_tape.specs.declared.trace.Trace.{Trace}
 use Rattle.boot_tape.specs.Moving.{MoveView, Done, Torn, moves_from, traced_by}
 use Rattle.boot_tape.specs.Playing.{IsTraceOf}
 use Rattle.boot_tape.specs.Traces.{Traced, trace}
-use Rattle.boot_cuts.specs.declared.answers.Class.TheVariants.{Former, Finished, Whole, Tail, Mixed, Bootsel}
+use Rattle.cut_class.specs.declared.class.Class.TheVariants.{Former, Finished, Whole, Tail, Mixed, Bootsel}
 use Rattle.boot_cuts.specs.Contents.{cut_contents}
 use Rattle.boot_cuts.specs.Tears.{left_torn}
 use Rattle.check_data.specs.declared.found.DataWindow.{DataWindow}

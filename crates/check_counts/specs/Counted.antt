@@ -7,7 +7,7 @@ use Rattle.pico_board.specs.Content.{Content}
 use Rattle.boot_rules.specs.Choosing.{decision_in}
 use Rattle.boot_script.specs.Events.{EventView}
 use Rattle.boot_tape.specs.Traces.{trace}
-use Rattle.boot_cuts.specs.declared.answers.Class.TheVariants.{Former, Finished, Whole, Tail, Mixed, Bootsel}
+use Rattle.cut_class.specs.declared.class.Class.TheVariants.{Former, Finished, Whole, Tail, Mixed, Bootsel}
 use Rattle.boot_cuts.specs.Classing.{class_of}
 use Rattle.boot_cuts.specs.Contents.{cut_contents}
 use Rattle.boot_cuts.specs.Tears.{left_torn}

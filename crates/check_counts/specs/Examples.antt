@@ -1,7 +1,7 @@
 -- Facts and counts of the worked examples.
 use Rattle.std.specs.Prelude.{ℕ, Bool, false, List, [], ◌∷◌}
 use Rattle.boot_rules.specs.declared.decision.Decision.{Decision}
-use Rattle.boot_cuts.specs.declared.answers.Class.{Class}
+use Rattle.cut_class.specs.declared.class.Class.{Class}
 use Rattle.slot_caveats.specs.declared.caveat.Caveat.{Caveat}
 use Rattle.check_counts.specs.declared.seen.CaveatSeen.{CaveatSeen}
 use Rattle.check_counts.specs.Facts.{Facts}

@@ -10,11 +10,11 @@ use Rattle.boot_rules.specs.Tables.{table_in}
 use Rattle.slot_caveats.specs.declared.caveat.Caveat.{Caveat}
 use Rattle.boot_caveats.specs.Caveats.{caveats_in}
 use Rattle.boot_cuts.specs.declared.answers.Answer.{Answer}
-use Rattle.boot_cuts.specs.declared.answers.Class.{Class}
-use Rattle.boot_cuts.specs.declared.answers.Class.TheVariants.{Former, Mixed, Bootsel}
+use Rattle.cut_class.specs.declared.class.Class.{Class}
+use Rattle.cut_class.specs.declared.class.Class.TheVariants.{Former, Mixed, Bootsel}
 use Rattle.boot_cuts.specs.Answers.{answer_of}
 use Rattle.boot_cuts.specs.Classing.{class_of, is_start}
-use Rattle.boot_cuts.specs.Runs.{is_same_class}
+use Rattle.cut_class.specs.Classes.{is_same_class}
 use Rattle.check_images.specs.Comparing.{is_same_found}
 use Rattle.check_images.specs.Raising.{boot_raises}
 use Rattle.check_data.specs.declared.found.DataWindow.{DataWindow}

@@ -2,7 +2,7 @@
 -- value, which no script reaches.
 use Rattle.std.specs.Prelude.{ℕ, ◌+◌, Bool, false, if◌then◌else◌, ◌||◌, not, min, List, [], replicate, length, ◌∷◌, ◌++◌, map}
 use Rattle.std.specs.List.{list_any}
-use Rattle.boot_cuts.specs.declared.answers.Class.TheVariants.{Former, Finished, Whole, Tail, Mixed, Bootsel}
+use Rattle.cut_class.specs.declared.class.Class.TheVariants.{Former, Finished, Whole, Tail, Mixed, Bootsel}
 use Rattle.boot_cuts.specs.Classing.{is_start}
 use Rattle.boot_cuts.specs.Counts.{has_class}
 use Rattle.slot_caveats.specs.declared.caveat.Caveat.{Caveat}

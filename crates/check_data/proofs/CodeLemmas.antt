@@ -25,7 +25,7 @@ use Rattle.image_check.specs.Rules.{map_answer, map_loads}
 use Rattle.image_check.specs.SameImage.{AgreeFrom}
 use Rattle.boot_sweep.specs.Moving.{MoveView, Done, Torn}
 use Rattle.boot_sweep.proofs.ResultLemmas.{bool-by}
-use Rattle.boot_tape.specs.declared.moves.Move.{Move}
+use Rattle.boot_sweep.specs.declared.moves.Move.{Move}
 use Rattle.boot_tape.specs.Moving.{done_steps, move_from, moves_from}
 use Rattle.check_data.specs.Loose.{block_span, is_in_block, is_in_span, is_page, is_loose, is_program_of, loose_by, loose_of, offsets_where, programmed_page}
 

@@ -11,9 +11,9 @@ use Rattle.boot_rules.specs.declared.decision.Decision.TheVariants.{Start, Boots
 use Rattle.boot_rules.specs.Chosen.{Chosen}
 use Rattle.boot_rules.proofs.DecisionLemmas.{chosen-once}
 use Rattle.boot_sweep.specs.Moving.{MoveView}
-use Rattle.boot_cuts.specs.declared.answers.Class.{Class}
-use Rattle.boot_cuts.specs.declared.answers.Class.TheVariants as classes
-use Rattle.boot_cuts.specs.Runs.{is_same_class}
+use Rattle.cut_class.specs.declared.class.Class.{Class}
+use Rattle.cut_class.specs.declared.class.Class.TheVariants as classes
+use Rattle.cut_class.specs.Classes.{is_same_class}
 use Rattle.boot_cuts.specs.Classes.{Falls, IsClass, IsFormer}
 use Rattle.check_require.specs.declared.report.ImageEffect.TheVariants.{Unchanged, Up, Same, Down}
 use Rattle.check_images.specs.Effects.{IsEffect, IsUnchanged, changed_effect, effect_of}

@@ -3,8 +3,8 @@ use Rattle.std.proofs.Common.{◌≡◌, ◌⊎◌, ◌∙◌, ℕ, ◌+◌, ◌
 use Rattle.std.specs.Prelude.{◌&&◌, ◌||◌}
 use Rattle.std.proofs.lemmas.Bool.{and_from, and_parts}
 use Rattle.pico_board.specs.declared.window.Window.{Window}
-use Rattle.boot_tape.specs.declared.moves.Move.{Move}
-use Rattle.boot_tape.specs.declared.moves.Move.TheVariants as rust_moves
+use Rattle.boot_sweep.specs.declared.moves.Move.{Move}
+use Rattle.boot_sweep.specs.declared.moves.Move.TheVariants as rust_moves
 use Rattle.pico_board.specs.declared.step.Step.TheVariants as rust_steps
 use Rattle.boot_tape.specs.Moving.{does_step, move_from, moves_from}
 use Rattle.boot_sweep.specs.Moving.{MoveView, moved_step}

@@ -9,10 +9,10 @@ use Rattle.slot_choice.specs.Versions.{is_below}
 use Rattle.boot_rules.specs.declared.decision.Decision.{Decision}
 use Rattle.boot_rules.specs.declared.decision.Decision.TheVariants as decisions
 use Rattle.boot_rules.specs.Chosen.{Chosen}
-use Rattle.boot_cuts.specs.declared.answers.Class.{Class}
-use Rattle.boot_cuts.specs.declared.answers.Class.TheVariants.{Former}
+use Rattle.cut_class.specs.declared.class.Class.{Class}
+use Rattle.cut_class.specs.declared.class.Class.TheVariants.{Former}
 use Rattle.boot_cuts.specs.Classes.{Falls, IsFormer}
-use Rattle.boot_cuts.specs.Runs.{is_same_class}
+use Rattle.cut_class.specs.Classes.{is_same_class}
 use Rattle.check_require.specs.declared.report.ImageEffect.{ImageEffect}
 use Rattle.check_require.specs.declared.report.ImageEffect.TheVariants.{Unchanged, New, Up, Same, Down}
 

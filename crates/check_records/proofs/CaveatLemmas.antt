@@ -8,7 +8,7 @@ use Rattle.boot_script.specs.Events.{EventView}
 use Rattle.boot_machine.specs.Machines.{MachineView}
 use Rattle.boot_plays.specs.Plays.{moved_machine, powerless}
 use Rattle.boot_sweep.specs.Moving.{MoveView}
-use Rattle.boot_tape.specs.declared.moves.Move.{Move}
+use Rattle.boot_sweep.specs.declared.moves.Move.{Move}
 use Rattle.boot_tape.specs.declared.notes.Note.{Note}
 use Rattle.boot_tape.specs.declared.trace.Trace.{Trace}
 use Rattle.boot_tape.specs.Moving.{move_from, moves_from}

@@ -6,7 +6,7 @@ use Rattle.pico_board.specs.Content.{Content}
 use Rattle.boot_script.specs.Events.{EventView}
 use Rattle.boot_rules.specs.Tables.{table_in}
 use Rattle.boot_cuts.specs.declared.answers.Answer.{Answer}
-use Rattle.boot_cuts.specs.declared.answers.Class.TheVariants.{Former, Bootsel}
+use Rattle.cut_class.specs.declared.class.Class.TheVariants.{Former, Bootsel}
 use Rattle.boot_cuts.specs.Answers.{answers}
 use Rattle.boot_cuts.specs.Contents.{cut_contents}
 use Rattle.boot_tape.specs.Traces.{trace, trace_steps}

@@ -4,8 +4,8 @@ use Rattle.std.specs.Prelude.{ℕ, Bool, false, true, [], ◌∷◌, Option, Non
 use Rattle.check_require.specs.declared.caveats.CaveatName.{CaveatName}
 use Rattle.check_require.specs.declared.report.CaveatFound.{CaveatFound}
 use Rattle.check_require.specs.declared.report.ClassCounts.{ClassCounts}
-use Rattle.check_require.specs.declared.report.CutClass.{CutClass}
-use Rattle.check_require.specs.declared.report.CutClass.TheVariants.{Finished}
+use Rattle.cut_class.specs.declared.class.Class.{Class}
+use Rattle.cut_class.specs.declared.class.Class.TheVariants.{Finished}
 use Rattle.check_require.specs.declared.report.DataFound.{DataFound}
 use Rattle.check_require.specs.declared.report.DataOwner.{DataOwner}
 use Rattle.check_require.specs.declared.report.DataWritten.{DataWritten}
@@ -48,7 +48,7 @@ counting of_whole of_tail of_mixed of_bootsel = record {
 -- what is found of an update that becomes of the image this, with this image at the end; whose
 -- records all do something or not; with these cuts and this end; and with which so many images are
 -- lost
-abbrev pub finding : ImageEffect → Option StartFound → Bool → ClassCounts → CutClass → ℕ
+abbrev pub finding : ImageEffect → Option StartFound → Bool → ClassCounts → Class → ℕ
     → ReportView
 finding effect at_the_end all_records counts class_at_end lost_images = record {
   image = effect;
@@ -79,7 +79,7 @@ abbrev pub turning : ImageEffect → ReportView
 turning effect = finding effect (Some (started true 0)) true (counting 0 0 0 0) Finished 0
 
 -- the same with these cuts
-abbrev pub cut_as : ClassCounts → CutClass → ReportView
+abbrev pub cut_as : ClassCounts → Class → ReportView
 cut_as counts class_at_end = finding Up (Some (started true 0)) true counts class_at_end 0
 
 -- an update with raises in its script and in the next boot, and rows that stay or not; and with

@@ -6,8 +6,8 @@ use Rattle.check_require.specs.declared.meeting.Verdict.TheVariants.{Passed, Mix
 use Rattle.check_require.specs.declared.members.Member.{Member}
 use Rattle.check_require.specs.declared.members.Member.TheVariants.{Effect, Records, Written, Keep, Data, Cuts, Version, Fallback, Again, Covered, Hash, NoRows, Session, Boot, Buy, Caveats}
 use Rattle.check_require.specs.declared.report.CaveatFound.{CaveatFound}
-use Rattle.check_require.specs.declared.report.CutClass.{CutClass}
-use Rattle.check_require.specs.declared.report.CutClass.TheVariants.{Whole as OfWhole, Tail as OfTail, Mixed as OfMixed, Bootsel as OfBootsel}
+use Rattle.cut_class.specs.declared.class.Class.{Class}
+use Rattle.cut_class.specs.declared.class.Class.TheVariants.{Whole as OfWhole, Tail as OfTail, Mixed as OfMixed, Bootsel as OfBootsel}
 use Rattle.check_require.specs.declared.report.DataFound.{DataFound}
 use Rattle.check_require.specs.declared.report.DataOwner.{DataOwner}
 use Rattle.check_require.specs.declared.report.DataOwner.TheVariants.{Both, Former, End}
@@ -93,19 +93,19 @@ abbrev pub allows : List Allowance → Allowance → Bool
 allows listed a = list_any (is_same_allowance a) listed
 
 -- the end is of this class
-abbrev pub is_whole : CutClass → Bool
+abbrev pub is_whole : Class → Bool
 is_whole OfWhole = true
 is_whole _ = false
 
-abbrev pub is_tail : CutClass → Bool
+abbrev pub is_tail : Class → Bool
 is_tail OfTail = true
 is_tail _ = false
 
-abbrev pub is_mixed : CutClass → Bool
+abbrev pub is_mixed : Class → Bool
 is_mixed OfMixed = true
 is_mixed _ = false
 
-abbrev pub is_bootsel : CutClass → Bool
+abbrev pub is_bootsel : Class → Bool
 is_bootsel OfBootsel = true
 is_bootsel _ = false
 

@@ -2,7 +2,7 @@
 use Rattle.std.specs.Prelude.{ℕ, Bool, List, Option}
 use Rattle.check_require.specs.declared.report.CaveatFound.{CaveatFound}
 use Rattle.check_require.specs.declared.report.ClassCounts.{ClassCounts}
-use Rattle.check_require.specs.declared.report.CutClass.{CutClass}
+use Rattle.cut_class.specs.declared.class.Class.{Class}
 use Rattle.check_require.specs.declared.report.DataFound.{DataFound}
 use Rattle.check_require.specs.declared.report.ImageEffect.{ImageEffect}
 use Rattle.check_require.specs.declared.report.LawOfWrites.{LawOfWrites}
@@ -31,7 +31,7 @@ pub record ReportView : Type 0 where
   pub boot : LawOfWrites
   pub buy : LawOfWrites
   pub cuts : ClassCounts
-  pub end_class : CutClass
+  pub end_class : Class
   pub caveats : List CaveatFound
 
 abbrev pub report_from : Report → ReportView

@@ -13,12 +13,13 @@ mod report;
 mod requirement;
 
 pub use caveats::{CAVEAT_NAMES, CaveatName};
+pub use cut_class::Class;
 pub use meeting::{Verdict, is_met, unmet, verdict_on};
 pub use members::{MEMBERS, Member};
 pub use reading::{default_require, require_of};
 pub use report::{
-    CaveatFound, ClassCounts, CutClass, DataFound, DataOwner, DataWritten, ImageEffect,
-    LawOfWrites, Report, SessionLaw, StartFound, Writer, WrittenFound,
+    CaveatFound, ClassCounts, DataFound, DataOwner, DataWritten, ImageEffect, LawOfWrites, Report,
+    SessionLaw, StartFound, Writer, WrittenFound,
 };
 pub use requirement::{
     Allowance, AllowedCaveat, Require, RequireFault, SessionAsk, VersionAsk, WantedEffect,

@@ -7,12 +7,13 @@ ghost use Rattle.check_require.specs.Reports.{report_from};
 ghost use Rattle.check_require.specs.Requires.{require_from};
 
 use crate::report::{
-    CaveatFound, CutClass, DataFound, DataOwner, DataWritten, ImageEffect, LawOfWrites, Report,
-    SessionLaw, StartFound, Writer, WrittenFound,
+    CaveatFound, DataFound, DataOwner, DataWritten, ImageEffect, LawOfWrites, Report, SessionLaw,
+    StartFound, Writer, WrittenFound,
 };
 use crate::requirement::{Allowance, AllowedCaveat, Require, SessionAsk, VersionAsk, WantedEffect};
 use crate::{MEMBERS, Member};
 use arrayvec::ArrayVec;
+use cut_class::Class;
 
 /// What comes of an update by what is asked of it.
 #[derive(Clone, Copy, PartialEq, Eq, Debug)]
@@ -89,28 +90,28 @@ fn allows(listed: &[Allowance], allowance: Allowance) -> bool
 fn some_mixed(report: &Report) -> bool
     ensures { result ≡ some_mixed (report_from report.now) }
 {
-    report.cuts.mixed != 0 || matches!(report.end, CutClass::Mixed)
+    report.cuts.mixed != 0 || matches!(report.end, Class::Mixed)
 }
 
 /// Whether some cut or the end starts nothing.
 fn some_bootsel(report: &Report) -> bool
     ensures { result ≡ some_bootsel (report_from report.now) }
 {
-    report.cuts.bootsel != 0 || matches!(report.end, CutClass::Bootsel)
+    report.cuts.bootsel != 0 || matches!(report.end, Class::Bootsel)
 }
 
 /// Whether some cut or the end starts another whole image.
 fn some_whole(report: &Report) -> bool
     ensures { result ≡ some_whole (report_from report.now) }
 {
-    report.cuts.whole != 0 || matches!(report.end, CutClass::Whole)
+    report.cuts.whole != 0 || matches!(report.end, Class::Whole)
 }
 
 /// Whether some cut or the end starts the finished image without its tail.
 fn some_tail(report: &Report) -> bool
     ensures { result ≡ some_tail (report_from report.now) }
 {
-    report.cuts.tail != 0 || matches!(report.end, CutClass::Tail)
+    report.cuts.tail != 0 || matches!(report.end, Class::Tail)
 }
 
 /// Whether each cut is former or finished, or of a class that is listed.

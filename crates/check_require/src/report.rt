@@ -1,6 +1,7 @@
 //! What `check` finds of an update, as far as a member of the text looks at it.
 
 use crate::CaveatName;
+use cut_class::Class;
 
 /// What becomes of the image that starts.
 #[derive(Clone, Copy, PartialEq, Eq, Debug)]
@@ -77,23 +78,6 @@ pub struct DataFound {
     pub written: DataWritten,
     /// At how many cuts an image starts on other data than its own.
     pub torn: u32,
-}
-
-/// What a normal boot makes of a cut, or of the end.
-#[derive(Clone, Copy, PartialEq, Eq, Debug)]
-pub enum CutClass {
-    /// What it made of the flash before.
-    Former,
-    /// What it makes of the end.
-    Finished,
-    /// The start of an image that stood whole before, or stands whole at the end.
-    Whole,
-    /// The start of the finished image, but for what stands behind its last block.
-    Tail,
-    /// The start of a half-written image.
-    Mixed,
-    /// A fall.
-    Bootsel,
 }
 
 /// How many cuts have each class.
@@ -190,7 +174,7 @@ pub struct Report {
     /// How many cuts have each class.
     pub cuts: ClassCounts,
     /// The class of the end.
-    pub end: CutClass,
+    pub end: Class,
     /// The caveats.
     pub caveats: Vec<CaveatFound>,
 }

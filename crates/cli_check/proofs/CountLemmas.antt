@@ -15,15 +15,15 @@ use Rattle.boot_rules.specs.Chosen.{Chosen}
 use Rattle.boot_rules.proofs.DecisionLemmas.{chosen-decision, decision-chosen}
 use Rattle.boot_script.specs.Events.{EventView}
 use Rattle.boot_cuts.specs.declared.answers.Answer.{Answer}
-use Rattle.boot_cuts.specs.declared.answers.Class.{Class}
-use Rattle.boot_cuts.specs.declared.answers.Class.TheVariants as classes
+use Rattle.cut_class.specs.declared.class.Class.{Class}
+use Rattle.cut_class.specs.declared.class.Class.TheVariants as classes
 use Rattle.boot_cuts.specs.Answers.{answer_of, answers}
 use Rattle.boot_cuts.specs.Classes.{Falls, IsClass}
 use Rattle.boot_cuts.specs.Classing.{class_of, is_start}
-use Rattle.boot_cuts.specs.Runs.{is_same_class}
+use Rattle.cut_class.specs.Classes.{is_same_class}
 use Rattle.boot_cuts.specs.Tears.{left_torn}
 use Rattle.boot_cuts.proofs.ClassLemmas.{class-exactly}
-use Rattle.boot_cuts.proofs.RunLawLemmas.{class-self, same-class}
+use Rattle.cut_class.proofs.ClassLemmas.{class-self, same-class}
 use Rattle.boot_tape.specs.Traces.{trace}
 use Rattle.check_counts.specs.Counted.{script_cuts}
 use Rattle.check_counts.specs.Facts.{Sides, falls_on, has_other_table, is_early, is_of_class, is_on_other_data, is_other_class, is_raising}

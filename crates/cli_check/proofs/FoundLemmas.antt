@@ -8,7 +8,7 @@ use Rattle.pico_board.specs.Content.{Content}
 use Rattle.boot_rules.specs.declared.decision.Decision.{Decision}
 use Rattle.boot_rules.specs.Tables.{table_in}
 use Rattle.boot_script.specs.Events.{EventView}
-use Rattle.boot_cuts.specs.declared.answers.Class.{Class}
+use Rattle.cut_class.specs.declared.class.Class.{Class}
 use Rattle.boot_tape.specs.Traces.{trace, trace_steps}
 use Rattle.check_counts.specs.declared.counting.Counted.{Counted}
 use Rattle.check_counts.specs.Counted.{AreCounted, AreCounts, script_cuts, sides_of}

@@ -8,7 +8,7 @@ use Rattle.boot_rules.specs.Choosing.{decision_in}
 use Rattle.boot_rules.specs.Chosen.{Chosen}
 use Rattle.boot_rules.specs.Tables.{table_in}
 use Rattle.boot_rules.proofs.DecisionLemmas.{chosen-decision}
-use Rattle.boot_cuts.specs.declared.answers.Class.{Class}
+use Rattle.cut_class.specs.declared.class.Class.{Class}
 use Rattle.boot_sweep.specs.Moving.{MoveView}
 use Rattle.boot_tape.specs.declared.notes.Doer.{Doer}
 use Rattle.boot_tape.specs.declared.notes.Note.{Note}

@@ -1,7 +1,7 @@
 -- What is found is its parts.
 use Rattle.std.proofs.Common.{◌≡◌, ℕ, Bool, List, Option, ap, ◌∙◌}
 use Rattle.boot_rules.specs.declared.decision.Decision.{Decision}
-use Rattle.boot_cuts.specs.declared.answers.Class.{Class}
+use Rattle.cut_class.specs.declared.class.Class.{Class}
 use Rattle.check_counts.specs.declared.seen.CaveatSeen.{CaveatSeen}
 use Rattle.check_counts.specs.Tallies.{Tally}
 use Rattle.check_data.specs.declared.found.DataWindow.{DataWindow}

@@ -9,7 +9,7 @@ use Rattle.image_check.specs.declared.why.Why.TheVariants.{Digest}
 use Rattle.boot_rules.specs.declared.decision.Decision.{Decision}
 use Rattle.boot_rules.specs.declared.decision.Decision.TheVariants.{Start, Bootsel}
 use Rattle.boot_rules.specs.declared.decision.Fall.TheVariants.{NoImage}
-use Rattle.boot_cuts.specs.declared.answers.Class.{Class}
+use Rattle.cut_class.specs.declared.class.Class.{Class}
 use Rattle.text_lines.specs.declared.outcome.EventOutcome.TheVariants.{Ignored}
 use Rattle.check_counts.specs.Tallies.{Tally}
 use Rattle.check_data.specs.declared.found.DataWindow.{DataWindow}

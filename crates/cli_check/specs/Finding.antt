@@ -8,8 +8,8 @@ use Rattle.boot_rules.specs.Choosing.{decision_in}
 use Rattle.boot_rules.specs.Tables.{table_in}
 use Rattle.boot_script.specs.Events.{EventView}
 use Rattle.boot_sweep.specs.Moving.{MoveView}
-use Rattle.boot_cuts.specs.declared.answers.Class.{Class}
-use Rattle.boot_cuts.specs.declared.answers.Class.TheVariants.{Former, Finished, Whole, Tail, Mixed, Bootsel}
+use Rattle.cut_class.specs.declared.class.Class.{Class}
+use Rattle.cut_class.specs.declared.class.Class.TheVariants.{Former, Finished, Whole, Tail, Mixed, Bootsel}
 use Rattle.boot_cuts.specs.Answers.{end_answer}
 use Rattle.boot_tape.specs.declared.notes.Note.{Note}
 use Rattle.boot_tape.specs.Doers.{doers}

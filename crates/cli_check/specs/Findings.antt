@@ -1,6 +1,6 @@
 -- What is found of an update, as plain data.
 use Rattle.std.specs.Prelude.{ℕ, Bool, List, Option}
-use Rattle.boot_cuts.specs.declared.answers.Class.{Class}
+use Rattle.cut_class.specs.declared.class.Class.{Class}
 use Rattle.boot_rules.specs.declared.decision.Decision.{Decision}
 use Rattle.check_counts.specs.Tallies.{Tally, tally_of}
 use Rattle.check_data.specs.declared.found.DataWindow.{DataWindow}

@@ -1,7 +1,5 @@
 -- What is found of an update, as far as a member of the text of a team looks at it.
 use Rattle.std.specs.Prelude.{ℕ, min, ◌&&◌, not, Bool, true, false, is_none, List, [], ◌∷◌, ◌++◌, length, map, Option, Some, None, is_ok, option_to_list}
-use Rattle.boot_cuts.specs.declared.answers.Class.{Class}
-use Rattle.boot_cuts.specs.declared.answers.Class.TheVariants as classes
 use Rattle.boot_sweep.specs.Comparing.{is_same_decision}
 use Rattle.slot_caveats.specs.declared.caveat.Caveat.{Caveat}
 use Rattle.slot_caveats.specs.declared.caveat.Caveat.TheVariants as caveats
@@ -23,8 +21,6 @@ use Rattle.check_require.specs.declared.caveats.CaveatName.{CaveatName}
 use Rattle.check_require.specs.declared.caveats.CaveatName.TheVariants as names
 use Rattle.check_require.specs.declared.report.CaveatFound.{CaveatFound}
 use Rattle.check_require.specs.declared.report.ClassCounts.{ClassCounts}
-use Rattle.check_require.specs.declared.report.CutClass.{CutClass}
-use Rattle.check_require.specs.declared.report.CutClass.TheVariants as cuts
 use Rattle.check_require.specs.declared.report.DataFound.{DataFound}
 use Rattle.check_require.specs.declared.report.SessionLaw.{SessionLaw}
 use Rattle.check_require.specs.declared.report.SessionLaw.TheVariants as laws
@@ -67,14 +63,6 @@ name_of (caveats.BareHash w) = names.BareHash
 name_of (caveats.IgnoreFlags part) = names.IgnoreFlags
 name_of (caveats.NoRead part) = names.NoRead
 name_of (caveats.UpdateOfNothing base) = names.UpdateOfNothing
-
-abbrev pub class_name : Class → CutClass
-class_name classes.Former = cuts.Former
-class_name classes.Finished = cuts.Finished
-class_name classes.Whole = cuts.Whole
-class_name classes.Tail = cuts.Tail
-class_name classes.Mixed = cuts.Mixed
-class_name classes.Bootsel = cuts.Bootsel
 
 abbrev pub law_name : SessionFound → SessionLaw
 law_name sessions.Silent = laws.Silent
@@ -165,6 +153,6 @@ report_of f = record {
   boot = f.boot;
   buy = f.buy;
   cuts = class_counts f.tally;
-  end_class = class_name f.end_class;
+  end_class = f.end_class;
   caveats = map caveat_found f.tally.caveats ++ script_caveats f.script;
 }

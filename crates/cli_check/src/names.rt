@@ -1,12 +1,11 @@
-//! The names of caveats, the words of cuts and of laws, as the text of a team has them.
+//! The names of caveats and the words of laws, as the text of a team has them.
 
 ghost use Rattle.std.specs.Prelude.{◌≡◌};
-ghost use Rattle.cli_check.specs.Reporting.{class_name, law_name, name_of};
+ghost use Rattle.cli_check.specs.Reporting.{law_name, name_of};
 
 use boot_caveats::Caveat;
-use boot_cuts::Class;
 use check_laws::SessionFound;
-use check_require::{CaveatName, CutClass, SessionLaw};
+use check_require::{CaveatName, SessionLaw};
 
 /// The name of a caveat: the first word of its line.
 pub(crate) fn name_of(caveat: Caveat) -> CaveatName
@@ -43,20 +42,6 @@ pub(crate) fn name_of(caveat: Caveat) -> CaveatName
         Caveat::IgnoreFlags(_) => CaveatName::IgnoreFlags,
         Caveat::NoRead(_) => CaveatName::NoRead,
         Caveat::UpdateOfNothing(_) => CaveatName::UpdateOfNothing,
-    }
-}
-
-/// The class of a cut.
-pub(crate) fn class_name(class: Class) -> CutClass
-    ensures { result ≡ class_name class }
-{
-    match class {
-        Class::Former => CutClass::Former,
-        Class::Finished => CutClass::Finished,
-        Class::Whole => CutClass::Whole,
-        Class::Tail => CutClass::Tail,
-        Class::Mixed => CutClass::Mixed,
-        Class::Bootsel => CutClass::Bootsel,
     }
 }
 

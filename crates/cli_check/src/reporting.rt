@@ -7,7 +7,7 @@ ghost use Rattle.cli_check.specs.Findings.{findings_from};
 ghost use Rattle.cli_check.specs.Reporting.{are_records_ok, caveat_found, class_counts, data_found, data_each, event_caveat, falls_back, report_of, script_caveats, start_found, written_found};
 
 use crate::findings::Findings;
-use crate::names::{class_name, law_name, name_of};
+use crate::names::{law_name, name_of};
 use boot_sweep::is_same_decision;
 use check_counts::{CaveatSeen, Counts};
 use check_data::DataWindow;
@@ -179,7 +179,7 @@ pub(crate) fn report_of(alloc: Global, found: &Findings) -> Result<Report, Alloc
         boot: found.laws.boot,
         buy: found.laws.buy,
         cuts: class_counts(counts),
-        end: class_name(found.cuts.end_class),
+        end: found.cuts.end_class,
         caveats: caveats_all(alloc, &counts.caveats, &found.script)?,
     })
 }

@@ -5,11 +5,11 @@ use Rattle.cli_course.specs.declared.status.Status.{Status}
 use Rattle.cli_course.specs.declared.status.Status.TheVariants.{Input}
 use Rattle.cli_course.specs.Outcomes.{Verdict, Passes, IsUnbootable, IsMixed, HasNoEffect, IsRefused, IsUnmet, verdict_status}
 use Rattle.boot_cuts.specs.declared.answers.Answer.{Answer}
-use Rattle.boot_cuts.specs.declared.answers.Class.{Class}
-use Rattle.boot_cuts.specs.declared.answers.Class.TheVariants.{Mixed, Bootsel}
+use Rattle.cut_class.specs.declared.class.Class.{Class}
+use Rattle.cut_class.specs.declared.class.Class.TheVariants.{Mixed, Bootsel}
 use Rattle.boot_cuts.specs.Counts.{has_class}
-use Rattle.boot_cuts.specs.Runs.{is_same_class}
-use Rattle.boot_cuts.proofs.RunLawLemmas.{class-self, same-class}
+use Rattle.cut_class.specs.Classes.{is_same_class}
+use Rattle.cut_class.proofs.ClassLemmas.{class-self, same-class}
 use Rattle.cli_cuts.specs.CutsRules.{IsStatusOf, Says}
 use Rattle.cli_cuts.specs.CutsWorks.{has_any, verdict_of}
 

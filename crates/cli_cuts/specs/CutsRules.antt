@@ -8,8 +8,8 @@ use Rattle.cli_course.specs.declared.status.Status.{Status}
 use Rattle.cli_course.specs.declared.status.Status.TheVariants.{Done, Unbootable, Mixed as MixedStatus}
 use Rattle.cli_course.specs.Outcomes.{AnswerView}
 use Rattle.boot_cuts.specs.declared.answers.Answer.{Answer}
-use Rattle.boot_cuts.specs.declared.answers.Class.{Class}
-use Rattle.boot_cuts.specs.declared.answers.Class.TheVariants.{Mixed, Bootsel}
+use Rattle.cut_class.specs.declared.class.Class.{Class}
+use Rattle.cut_class.specs.declared.class.Class.TheVariants.{Mixed, Bootsel}
 use Rattle.boot_cuts.specs.declared.runs.Run.{Run}
 use Rattle.boot_cuts.specs.Contents.{cut_contents}
 use Rattle.boot_cuts.specs.Found.{trace_limit}

@@ -6,8 +6,8 @@ use Rattle.pico_board.specs.declared.Step.{Step}
 use Rattle.pico_board.specs.declared.step.Step.TheVariants.{Erase, Program, Raise}
 use Rattle.boot_rules.specs.declared.decision.Decision.{Decision}
 use Rattle.text_lines.specs.Texts.{decision_line}
-use Rattle.boot_cuts.specs.declared.answers.Class.{Class}
-use Rattle.boot_cuts.specs.declared.answers.Class.TheVariants.{Former, Finished, Whole, Tail, Mixed, Bootsel}
+use Rattle.cut_class.specs.declared.class.Class.{Class}
+use Rattle.cut_class.specs.declared.class.Class.TheVariants.{Former, Finished, Whole, Tail, Mixed, Bootsel}
 use Rattle.boot_cuts.specs.declared.runs.Run.{Run}
 
 -- a step: an erase or a program with its flash offset, or a raise with its row

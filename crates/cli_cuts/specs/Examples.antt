@@ -9,7 +9,7 @@ use Rattle.boot_rules.specs.declared.decision.Fall.TheVariants.{FlashOff, NoImag
 use Rattle.worked_flashes.specs.Choices.{starts_alone}
 use Rattle.worked_flashes.specs.Images.{image_of_version}
 use Rattle.boot_cuts.specs.declared.answers.Answer.{Answer}
-use Rattle.boot_cuts.specs.declared.answers.Class.{Class}
+use Rattle.cut_class.specs.declared.class.Class.{Class}
 use Rattle.boot_cuts.specs.declared.runs.Run.{Run}
 
 -- an erase, a program and a raise

@@ -25,8 +25,8 @@ use Rattle.boot_session.specs.Sessions.{session}
 use Rattle.boot_session.proofs.GatedLaws.{decide-blank, gated-decision}
 use Rattle.boot_sweep.specs.Refusals.{StartsIn}
 use Rattle.boot_sweep.specs.Moving.{MoveView}
-use Rattle.boot_cuts.specs.declared.answers.Class.{Class}
-use Rattle.boot_cuts.specs.declared.answers.Class.TheVariants.{Former, Finished}
+use Rattle.cut_class.specs.declared.class.Class.{Class}
+use Rattle.cut_class.specs.declared.class.Class.TheVariants.{Former, Finished}
 use Rattle.boot_cuts.specs.Classes.{IsClass, IsFinished, IsFormer}
 use Rattle.boot_cuts.proofs.ClassLemmas.{class-exactly}
 use Rattle.boot_cuts.specs.Contents.{cut_contents}

@@ -36,13 +36,13 @@ use Rattle.boot_sweep.specs.declared.results.CutResult.{CutResult}
 use Rattle.boot_sweep.specs.declared.results.CutResult.TheVariants.{Former, Finished, Chance}
 use Rattle.boot_sweep.specs.Comparing.{result_of}
 use Rattle.boot_sweep.specs.Refusals.{StartsIn, gains_table, is_start_in, starts_in_slot, sweep_refusal, ungated, where_}
-use Rattle.boot_sweep.specs.Results.{IsCutResult, IsFormer as DecidesSo}
+use Rattle.boot_sweep.specs.Results.{IsCutResult, DecidesAsBefore}
 use Rattle.boot_sweep.specs.Sweeps.{Line, lines_from, sweep_lines}
 use Rattle.boot_sweep.proofs.RefusalCaseLemmas.{in-start, refused-exactly}
 use Rattle.boot_sweep.proofs.ResultLemmas.{judged-exactly, start-holds}
 use Rattle.boot_sweep.specs.Moving.{MoveView}
-use Rattle.boot_cuts.specs.declared.answers.Class.{Class}
-use Rattle.boot_cuts.specs.declared.answers.Class.TheVariants as classes
+use Rattle.cut_class.specs.declared.class.Class.{Class}
+use Rattle.cut_class.specs.declared.class.Class.TheVariants as classes
 use Rattle.boot_cuts.specs.Classes.{HasImageOf, IsClass, IsFinished, IsFormer}
 use Rattle.boot_cuts.specs.Classing.{class_of}
 use Rattle.boot_cuts.specs.Tears.{IsLeftTorn, left_torn}
@@ -79,7 +79,7 @@ has-image c d cpu (Start choice) keeps chosen =
 has-image c d cpu (Bootsel fall) keeps chosen = tt
 
 -- to decide as before is to be former, and to be former is to decide as before
-pub decides-former : (c d : Content) (cpu : Cpu) → KeepsFormer c d cpu → DecidesSo c d cpu → IsFormer c d cpu
+pub decides-former : (c d : Content) (cpu : Cpu) → KeepsFormer c d cpu → DecidesAsBefore c d cpu → IsFormer c d cpu
 decides-former c d cpu keeps so = record {
   decision = so.0;
   first = so.1;
@@ -87,7 +87,7 @@ decides-former c d cpu keeps so = record {
   image = has-image c d cpu so.0 keeps so.1;
 }
 
-former-decides : (c d : Content) (cpu : Cpu) → IsFormer c d cpu → DecidesSo c d cpu
+former-decides : (c d : Content) (cpu : Cpu) → IsFormer c d cpu → DecidesAsBefore c d cpu
 former-decides c d cpu is = (is.decision, is.first, is.here)
 
 -- an image that starts on both has the same bytes from either side

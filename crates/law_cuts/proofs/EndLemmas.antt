@@ -18,8 +18,8 @@ use Rattle.boot_plays.specs.Plays.{Moved, moved_as, moved_machine, powerless, to
 use Rattle.boot_plays.proofs.PlayLemmas.{moved-as}
 use Rattle.boot_sweep.specs.Moving.{MoveView}
 use Rattle.boot_sweep.proofs.ResultLemmas.{start-holds}
-use Rattle.boot_cuts.specs.declared.answers.Class.{Class}
-use Rattle.boot_cuts.specs.declared.answers.Class.TheVariants as classes
+use Rattle.cut_class.specs.declared.class.Class.{Class}
+use Rattle.cut_class.specs.declared.class.Class.TheVariants as classes
 use Rattle.boot_cuts.specs.Classes.{IsClass, IsFinished}
 use Rattle.boot_tape.specs.CutMoves.{cut_moves}
 use Rattle.boot_cuts.specs.Tears.{IsLeftTorn, is_left_torn, left_torn}

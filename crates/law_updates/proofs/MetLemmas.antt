@@ -4,8 +4,8 @@ use Rattle.std.specs.Prelude.{◌||◌, filter, not}
 use Rattle.std.specs.List.{AllByRecursion}
 use Rattle.std.proofs.lemmas.Bool.{and_parts, eqb-true}
 use Rattle.check_require.specs.declared.members.Member.{Member}
-use Rattle.check_require.specs.declared.report.CutClass.{CutClass}
-use Rattle.check_require.specs.declared.report.CutClass.TheVariants.{Former, Finished, Whole, Tail, Mixed, Bootsel}
+use Rattle.cut_class.specs.declared.class.Class.{Class}
+use Rattle.cut_class.specs.declared.class.Class.TheVariants.{Former, Finished, Whole, Tail, Mixed, Bootsel}
 use Rattle.check_require.specs.declared.report.ImageEffect.{ImageEffect}
 use Rattle.check_require.specs.declared.report.ImageEffect.TheVariants.{Unchanged, New, Up, Same, Down}
 use Rattle.check_require.specs.Meeting.{is_bootsel, is_met, is_mixed, is_other_image, is_tail, some_bootsel, some_mixed, some_tail, unmet}
@@ -57,7 +57,7 @@ none-of n b e = go (n == 0) refl b e
     go true is b f = (eqb-true n 0 is, f)
     go false is b f = cc
 
-ends-whole : (class : CutClass) → is_tail class ≡ false → is_mixed class ≡ false → is_bootsel class ≡ false
+ends-whole : (class : Class) → is_tail class ≡ false → is_mixed class ≡ false → is_bootsel class ≡ false
     → StartsWhole class
 ends-whole Former tail mixed bootsel = tt
 ends-whole Finished tail mixed bootsel = tt

@@ -9,14 +9,14 @@ use Rattle.boot_rules.specs.Chosen.{Chosen}
 use Rattle.check_images.specs.declared.found.ImageFacts.{ImageFacts}
 use Rattle.check_images.specs.Boots.{after_boot}
 use Rattle.check_images.specs.Images.{IsImageOf}
-use Rattle.check_require.specs.declared.report.CutClass.{CutClass}
-use Rattle.check_require.specs.declared.report.CutClass.TheVariants.{Former, Finished, Whole, Tail, Mixed, Bootsel}
+use Rattle.cut_class.specs.declared.class.Class.{Class}
+use Rattle.cut_class.specs.declared.class.Class.TheVariants.{Former, Finished, Whole, Tail, Mixed, Bootsel}
 use Rattle.check_require.specs.declared.report.ImageEffect.TheVariants.{Unchanged}
 use Rattle.check_require.specs.Reports.{ReportView}
 use Rattle.law_updates.specs.Boots.{after_boots}
 
 -- what starts is as before, or stands whole before or at the end
-abbrev pub StartsWhole : CutClass → Type 0
+abbrev pub StartsWhole : Class → Type 0
 StartsWhole Former = ⊤
 StartsWhole Finished = ⊤
 StartsWhole Whole = ⊤

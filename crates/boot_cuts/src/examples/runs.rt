@@ -1,7 +1,7 @@
 //! Worked runs, by computing.
 
 ghost use Rattle.std.specs.Prelude.{◌≡◌, ◌∷◌, []};
-ghost use Rattle.boot_cuts.specs.declared.answers.Class.TheVariants.{Former, Finished, Mixed, Bootsel};
+ghost use Rattle.cut_class.specs.declared.class.Class.TheVariants.{Former, Finished, Mixed, Bootsel};
 ghost use Rattle.boot_cuts.specs.Examples.{falls, falls_otherwise, first_start, last_start, run_to, told};
 ghost use Rattle.boot_cuts.specs.Runs.{runs_of};
 

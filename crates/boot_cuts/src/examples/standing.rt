@@ -3,7 +3,7 @@
 ghost use Rattle.std.specs.Prelude.{◌≡◌, ◌∷◌, [], true, false, Ok};
 ghost use Rattle.pico_board.specs.declared.Step.TheVariants.{Program};
 ghost use Rattle.pico_board.specs.declared.boot.Cpu.TheVariants.{Arm, Riscv};
-ghost use Rattle.boot_cuts.specs.declared.answers.Class.TheVariants.{Former, Finished, Whole, Tail, Mixed};
+ghost use Rattle.cut_class.specs.declared.class.Class.TheVariants.{Former, Finished, Whole, Tail, Mixed};
 ghost use Rattle.boot_cuts.specs.Classing.{agrees_to_end, class_by, stands_in, start_class};
 ghost use Rattle.boot_cuts.specs.Examples.{bare_page, block_at, falls, forty_and, long_image, one_with, page_image, page_of, page_start, two_mapped, two_with};
 

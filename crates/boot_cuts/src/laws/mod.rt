@@ -18,8 +18,8 @@ ghost use Rattle.text_lines.specs.declared.outcome.EventOutcome.TheVariants as e
 ghost use Rattle.boot_plays.specs.Plays.{played, powerless, told_cut};
 ghost use Rattle.text_lines.specs.Texts.{decision_text};
 ghost use Rattle.boot_cuts.specs.declared.answers.Answer.{Answer};
-ghost use Rattle.boot_cuts.specs.declared.answers.Class.{Class};
-ghost use Rattle.boot_cuts.specs.declared.answers.Class.TheVariants.{Whole};
+ghost use Rattle.cut_class.specs.declared.class.Class.{Class};
+ghost use Rattle.cut_class.specs.declared.class.Class.TheVariants.{Whole};
 ghost use Rattle.boot_cuts.specs.declared.runs.Run.{Run};
 ghost use Rattle.boot_cuts.specs.Answers.{answer_of};
 ghost use Rattle.boot_cuts.specs.Classes.{IsClass};

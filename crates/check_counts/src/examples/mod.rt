@@ -3,7 +3,7 @@
 ghost use Rattle.std.specs.Prelude.{◌≡◌, ◌∷◌, [], true, false};
 ghost use Rattle.boot_rules.specs.declared.decision.Decision.TheVariants as decisions;
 ghost use Rattle.boot_rules.specs.declared.decision.Fall.TheVariants.{NoImage};
-ghost use Rattle.boot_cuts.specs.declared.answers.Class.TheVariants.{Former, Finished, Whole, Tail, Mixed, Bootsel};
+ghost use Rattle.cut_class.specs.declared.class.Class.TheVariants.{Former, Finished, Whole, Tail, Mixed, Bootsel};
 ghost use Rattle.slot_choice.specs.declared.choice.Choice.{Choice};
 ghost use Rattle.slot_caveats.specs.declared.caveat.Caveat.TheVariants.{ImageInSlot, SecureBoot, TableOrder, TableTie};
 ghost use Rattle.check_counts.specs.CaveatsSeen.{firsts, has_caveat};

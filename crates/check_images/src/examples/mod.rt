@@ -10,7 +10,7 @@ ghost use Rattle.worked_flashes.specs.Flashes.{bare_slot, beside_small};
 ghost use Rattle.worked_flashes.specs.Images.{in_b, version_at};
 ghost use Rattle.boot_rules.specs.declared.decision.Decision.TheVariants.{Bootsel, Start};
 ghost use Rattle.boot_rules.specs.declared.decision.Fall.TheVariants.{NoImage};
-ghost use Rattle.boot_cuts.specs.declared.answers.Class.TheVariants.{Former, Finished, Mixed};
+ghost use Rattle.cut_class.specs.declared.class.Class.TheVariants.{Former, Finished, Mixed};
 ghost use Rattle.boot_sweep.specs.Moving.{Done, Torn};
 ghost use Rattle.check_require.specs.declared.report.ImageEffect.TheVariants.{Down, New, Same, Unchanged, Up};
 ghost use Rattle.boot_tape.specs.declared.notes.Doer.TheVariants as doers;

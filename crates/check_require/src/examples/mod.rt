@@ -10,7 +10,7 @@ ghost use Rattle.check_require.specs.Requires.{default_caveats, default_require}
 ghost use Rattle.check_require.specs.declared.caveats.CaveatName.TheVariants.{HeldSector, MayStart, RawCritical, SecureBoot, ShortFlash, SkippedBlock, Tie};
 ghost use Rattle.check_require.specs.declared.meeting.Verdict.TheVariants.{Mixed, NoEffect, Passed, Refused, Unbootable, Unmet};
 ghost use Rattle.check_require.specs.declared.members.Member.{Member};
-ghost use Rattle.check_require.specs.declared.report.CutClass.{CutClass};
+ghost use Rattle.cut_class.specs.declared.class.Class.{Class};
 ghost use Rattle.check_require.specs.declared.report.DataOwner.TheVariants.{Both, End, Former};
 ghost use Rattle.check_require.specs.declared.report.DataWritten.TheVariants.{No, Torn, Yes};
 ghost use Rattle.check_require.specs.declared.report.ImageEffect.TheVariants.{Down, New, Same, Unchanged, Up};
@@ -114,27 +114,27 @@ pub fn data_that_images_find()
 /// Each class but `former` and `finished` has to be listed, of a cut and of the end, and boots that
 /// raise rows for half-written images too.
 pub fn cuts_that_are_allowed()
-    ensures none { are_cuts_allowed [] (cut_as (counting 0 0 0 0) CutClass.Finished) ≡ true }
-    ensures former { are_cuts_allowed [] (cut_as (counting 0 0 0 0) CutClass.Former) ≡ true }
-    ensures no_whole { are_cuts_allowed [] (cut_as (counting 1 0 0 0) CutClass.Finished) ≡ false }
+    ensures none { are_cuts_allowed [] (cut_as (counting 0 0 0 0) Class.Finished) ≡ true }
+    ensures former { are_cuts_allowed [] (cut_as (counting 0 0 0 0) Class.Former) ≡ true }
+    ensures no_whole { are_cuts_allowed [] (cut_as (counting 1 0 0 0) Class.Finished) ≡ false }
     ensures whole { are_cuts_allowed (Allowance.Whole ∷ [])
-        (cut_as (counting 1 0 0 0) CutClass.Whole) ≡ true }
-    ensures whole_end { are_cuts_allowed [] (cut_as (counting 0 0 0 0) CutClass.Whole) ≡ false }
+        (cut_as (counting 1 0 0 0) Class.Whole) ≡ true }
+    ensures whole_end { are_cuts_allowed [] (cut_as (counting 0 0 0 0) Class.Whole) ≡ false }
     ensures no_tail { are_cuts_allowed (Allowance.Whole ∷ [])
-        (cut_as (counting 0 1 0 0) CutClass.Finished) ≡ false }
+        (cut_as (counting 0 1 0 0) Class.Finished) ≡ false }
     ensures tail { are_cuts_allowed (Allowance.Tail ∷ [])
-        (cut_as (counting 0 1 0 0) CutClass.Tail) ≡ true }
-    ensures tail_end { are_cuts_allowed [] (cut_as (counting 0 0 0 0) CutClass.Tail) ≡ false }
+        (cut_as (counting 0 1 0 0) Class.Tail) ≡ true }
+    ensures tail_end { are_cuts_allowed [] (cut_as (counting 0 0 0 0) Class.Tail) ≡ false }
     ensures no_mixed { are_cuts_allowed (Allowance.Tail ∷ [])
-        (cut_as (counting 0 0 1 0) CutClass.Finished) ≡ false }
+        (cut_as (counting 0 0 1 0) Class.Finished) ≡ false }
     ensures mixed { are_cuts_allowed (Allowance.Mixed ∷ [])
-        (cut_as (counting 0 0 1 0) CutClass.Mixed) ≡ true }
-    ensures mixed_end { are_cuts_allowed [] (cut_as (counting 0 0 0 0) CutClass.Mixed) ≡ false }
+        (cut_as (counting 0 0 1 0) Class.Mixed) ≡ true }
+    ensures mixed_end { are_cuts_allowed [] (cut_as (counting 0 0 0 0) Class.Mixed) ≡ false }
     ensures no_bootsel { are_cuts_allowed (Allowance.Mixed ∷ [])
-        (cut_as (counting 0 0 0 1) CutClass.Finished) ≡ false }
+        (cut_as (counting 0 0 0 1) Class.Finished) ≡ false }
     ensures bootsel { are_cuts_allowed (Allowance.Bootsel ∷ [])
-        (cut_as (counting 0 0 0 1) CutClass.Bootsel) ≡ true }
-    ensures bootsel_end { are_cuts_allowed [] (cut_as (counting 0 0 0 0) CutClass.Bootsel)
+        (cut_as (counting 0 0 0 1) Class.Bootsel) ≡ true }
+    ensures bootsel_end { are_cuts_allowed [] (cut_as (counting 0 0 0 0) Class.Bootsel)
         ≡ false }
     ensures no_raises { are_cuts_allowed (Allowance.Mixed ∷ []) (raising 0 0 true 1) ≡ false }
     ensures raises { are_cuts_allowed (Allowance.Raising ∷ []) (raising 0 0 true 1) ≡ true }
@@ -154,7 +154,7 @@ pub fn versions_that_may_come()
     ensures same_down { has_version VersionAsk.Same (turning Down) ≡ false }
     ensures same_unchanged { has_version VersionAsk.Same (turning Unchanged) ≡ true }
     ensures same_dead { has_version VersionAsk.Same
-        (finding Unchanged None true (counting 0 0 0 0) CutClass.Bootsel 0) ≡ false }
+        (finding Unchanged None true (counting 0 0 0 0) Class.Bootsel 0) ≡ false }
     ensures any_down { has_version VersionAsk.Any (turning Down) ≡ true }
     ensures still { still_starts (turning Unchanged) ≡ true }
     ensures another { still_starts (turning Up) ≡ false }
@@ -201,25 +201,25 @@ pub fn laws_of_sessions()
 /// What the text does not say is asked by default, and the verdict is the first that holds.
 pub fn verdicts_by_default()
     ensures passed { verdict_on default_require (turning Up) ≡ Passed }
-    ensures whole_passes { verdict_on default_require (cut_as (counting 1 0 0 0) CutClass.Finished)
+    ensures whole_passes { verdict_on default_require (cut_as (counting 1 0 0 0) Class.Finished)
         ≡ Passed }
     ensures down_passes { verdict_on default_require (turning Down) ≡ Passed }
     ensures mixed { verdict_on default_require
-        (finding Unchanged None false (counting 0 0 1 1) CutClass.Bootsel 1) ≡ Mixed }
+        (finding Unchanged None false (counting 0 0 1 1) Class.Bootsel 1) ≡ Mixed }
     ensures mixed_end { verdict_on default_require
-        (finding Up (Some (started true 0)) true (counting 0 0 0 0) CutClass.Mixed 0) ≡ Mixed }
+        (finding Up (Some (started true 0)) true (counting 0 0 0 0) Class.Mixed 0) ≡ Mixed }
     ensures unbootable { verdict_on default_require
-        (finding Unchanged None false (counting 0 0 0 1) CutClass.Former 1) ≡ Unbootable }
+        (finding Unchanged None false (counting 0 0 0 1) Class.Former 1) ≡ Unbootable }
     ensures refused { verdict_on default_require
-        (finding Unchanged None false (counting 0 0 0 0) CutClass.Former 1) ≡ Refused }
+        (finding Unchanged None false (counting 0 0 0 0) Class.Former 1) ≡ Refused }
     ensures no_effect { verdict_on default_require
-        (finding Unchanged None true (counting 0 0 0 0) CutClass.Former 1) ≡ NoEffect }
+        (finding Unchanged None true (counting 0 0 0 0) Class.Former 1) ≡ NoEffect }
     ensures lost { verdict_on default_require
-        (finding Up None true (counting 0 0 0 0) CutClass.Finished 1) ≡ Unmet }
-    ensures tail { verdict_on default_require (cut_as (counting 0 1 0 0) CutClass.Finished)
+        (finding Up None true (counting 0 0 0 0) Class.Finished 1) ≡ Unmet }
+    ensures tail { verdict_on default_require (cut_as (counting 0 1 0 0) Class.Finished)
         ≡ Unmet }
     ensures all_unmet { unmet default_require
-        (finding Unchanged (Some (started true 1)) false (counting 0 0 1 1) CutClass.Bootsel 1)
+        (finding Unchanged (Some (started true 1)) false (counting 0 0 1 1) Class.Bootsel 1)
         ≡ Member.Effect ∷ Member.Records ∷ Member.Keep ∷ Member.Cuts ∷ Member.Covered ∷ [] }
     ensures none_unmet { unmet default_require (turning Up) ≡ [] }
 {}

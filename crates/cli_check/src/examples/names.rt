@@ -1,23 +1,11 @@
-//! Worked names of classes and of laws.
+//! Worked names of laws.
 
 ghost use Rattle.std.specs.Prelude.{◌≡◌};
-ghost use Rattle.boot_cuts.specs.declared.answers.Class.TheVariants as classes;
 ghost use Rattle.check_laws.specs.declared.found.Reason.TheVariants.{Order, Script};
 ghost use Rattle.check_laws.specs.declared.found.SessionFound.TheVariants as sessions;
-ghost use Rattle.check_require.specs.declared.report.CutClass.TheVariants as cuts;
 ghost use Rattle.check_require.specs.declared.report.SessionLaw.TheVariants as laws;
 ghost use Rattle.cli_check.specs.Examples.{one, other};
-ghost use Rattle.cli_check.specs.Reporting.{class_name, law_name};
-
-/// Each class of a cut has one name.
-pub fn names_of_classes()
-    ensures former { class_name classes.Former ≡ cuts.Former }
-    ensures finished { class_name classes.Finished ≡ cuts.Finished }
-    ensures whole { class_name classes.Whole ≡ cuts.Whole }
-    ensures tail { class_name classes.Tail ≡ cuts.Tail }
-    ensures mixed { class_name classes.Mixed ≡ cuts.Mixed }
-    ensures bootsel { class_name classes.Bootsel ≡ cuts.Bootsel }
-{}
+ghost use Rattle.cli_check.specs.Reporting.{law_name};
 
 /// Each law of a session has one name, whatever its window or its reason.
 pub fn names_of_laws()

@@ -1,7 +1,7 @@
 //! Worked examples of what a member looks at.
 
 ghost use Rattle.std.specs.Prelude.{◌≡◌, ◌∷◌, ◌++◌, [], Err, None, Ok, Some, false, replicate, true};
-ghost use Rattle.boot_cuts.specs.declared.answers.Class.TheVariants.{Finished};
+ghost use Rattle.cut_class.specs.declared.class.Class.TheVariants.{Finished};
 ghost use Rattle.image_check.specs.declared.why.Why.TheVariants.{NoBlock};
 ghost use Rattle.check_counts.specs.Examples.{seen_so};
 ghost use Rattle.check_images.specs.declared.found.Hashed.TheVariants as hashes;
@@ -9,7 +9,6 @@ ghost use Rattle.check_lines.specs.Examples.{counts_so};
 ghost use Rattle.check_records.specs.declared.found.Again.TheVariants as agains;
 ghost use Rattle.check_require.specs.Examples.{caveat_at, counting, data_of, finding, started, written_by};
 ghost use Rattle.check_require.specs.declared.caveats.CaveatName.TheVariants as names;
-ghost use Rattle.check_require.specs.declared.report.CutClass.TheVariants as cuts;
 ghost use Rattle.check_require.specs.declared.report.DataOwner.TheVariants.{Both, End, Former};
 ghost use Rattle.check_require.specs.declared.report.DataWritten.TheVariants.{No, Torn, Yes};
 ghost use Rattle.check_require.specs.declared.report.ImageEffect.TheVariants.{Down, New};
@@ -93,10 +92,10 @@ pub fn caveats_that_are_found()
 pub fn whole_reports()
     ensures well { report_of
         (found_so Finished (counts_so 10 2 0 0 0 0 10) (images_so New []) all_well)
-        ≡ record (finding New (Some (started true 0)) true (counting 0 0 0 0) cuts.Finished 0)
+        ≡ record (finding New (Some (started true 0)) true (counting 0 0 0 0) Finished 0)
         { again = true } }
     ensures lost { report_of (found_so Finished (counts_so 10 2 1 2 3 4 14)
         (images_so Down (other_lost ∷ other_lost ∷ [])) one_ignored)
-        ≡ record (finding Down (Some (started true 0)) false (counting 1 2 3 4) cuts.Finished 2)
+        ≡ record (finding Down (Some (started true 0)) false (counting 1 2 3 4) Finished 2)
         { again = true } }
 {}

@@ -1,7 +1,7 @@
 //! Worked texts: the lines in their order.
 
 ghost use Rattle.std.specs.Prelude.{◌≡◌, ◌∷◌, ◌++◌, [], Err, None, Ok, Some, codes, false, true};
-ghost use Rattle.boot_cuts.specs.declared.answers.Class.TheVariants.{Finished, Former};
+ghost use Rattle.cut_class.specs.declared.class.Class.TheVariants.{Finished, Former};
 ghost use Rattle.image_check.specs.declared.why.Why.TheVariants.{NoBlock};
 ghost use Rattle.check_counts.specs.Examples.{seen_so};
 ghost use Rattle.check_images.specs.declared.found.Hashed.TheVariants as hashes;

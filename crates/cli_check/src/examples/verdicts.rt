@@ -1,7 +1,7 @@
 //! Worked verdicts, with what is asked by default.
 
 ghost use Rattle.std.specs.Prelude.{◌≡◌, ◌∷◌, []};
-ghost use Rattle.boot_cuts.specs.declared.answers.Class.TheVariants as classes;
+ghost use Rattle.cut_class.specs.declared.class.Class.TheVariants as classes;
 ghost use Rattle.check_lines.specs.Examples.{counts_so};
 ghost use Rattle.check_require.specs.declared.report.ImageEffect.TheVariants.{Down, New, Unchanged};
 ghost use Rattle.cli_course.specs.declared.status.Status.TheVariants.{Done, Mixed, NoEffect, Refused, Unbootable, Unmet};

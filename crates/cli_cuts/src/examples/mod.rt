@@ -3,7 +3,7 @@
 
 ghost use Rattle.std.specs.Prelude.{◌≡◌, ◌∷◌, ◌++◌, [], codes, None, Some};
 ghost use Rattle.pico_board.specs.declared.Step.TheVariants.{Erase, Program, Raise};
-ghost use Rattle.boot_cuts.specs.declared.answers.Class.TheVariants.{Former, Finished, Whole, Tail, Mixed, Bootsel};
+ghost use Rattle.cut_class.specs.declared.class.Class.TheVariants.{Former, Finished, Whole, Tail, Mixed, Bootsel};
 ghost use Rattle.cli_course.specs.declared.status.Status.TheVariants.{Done, Unbootable, Mixed as MixedStatus};
 ghost use Rattle.cli_course.specs.Outcomes.{verdict_status};
 ghost use Rattle.cli_cuts.specs.CutsTexts.{class_text, cut_text, cuts_text, end_text, run_text, step_at_text, step_text};

@@ -13,7 +13,7 @@ ghost use Rattle.boot_sweep.specs.declared.results.CutResult.{CutResult};
 ghost use Rattle.boot_sweep.specs.Results.{IsCutResult};
 ghost use Rattle.boot_sweep.specs.Sweeps.{Line, sweep_lines};
 ghost use Rattle.boot_sweep.specs.Moving.{Done};
-ghost use Rattle.boot_cuts.specs.declared.answers.Class.{Class};
+ghost use Rattle.cut_class.specs.declared.class.Class.{Class};
 ghost use Rattle.boot_cuts.specs.Classes.{IsClass};
 ghost use Rattle.boot_cuts.specs.Contents.{cut_contents};
 ghost use Rattle.boot_tape.specs.Traces.{trace, trace_steps, traced_from};

@@ -3,7 +3,7 @@ use Rattle.pico_board.specs.declared.Step.{Step}
 use Rattle.pico_board.specs.Content.{Content}
 use Rattle.boot_script.specs.Events.{event_from}
 use Rattle.boot_machine.specs.Moves.{effect}
-use Rattle.boot_tape.specs.declared.moves.Move.{Move}
+use Rattle.boot_sweep.specs.declared.moves.Move.{Move}
 use Rattle.boot_tape.proofs.PlayLemmas.{done-by, former-within, fresh-in, play-on, rest-is}
 use Rattle.boot_tape.proofs.playing.play.Goals as goal
 

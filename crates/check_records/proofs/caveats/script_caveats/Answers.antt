@@ -1,6 +1,6 @@
 use Rattle.std.proofs.Common.{◌∙◌, ap}
 use Rattle.boot_script.specs.Scripts.{script_events}
-use Rattle.boot_tape.specs.declared.moves.Move.{Move}
+use Rattle.boot_sweep.specs.declared.moves.Move.{Move}
 use Rattle.boot_tape.specs.declared.notes.Note.{Note}
 use Rattle.std.proofs.Common.{List}
 use Rattle.boot_tape.specs.Moving.{moves_from}

@@ -8,8 +8,8 @@ use Rattle.pico_board.specs.Steps.{after_all}
 use Rattle.boot_rules.specs.Tables.{table_in}
 use Rattle.boot_session.specs.CutSessions.{StartsFinished}
 use Rattle.boot_session.specs.Slots.{IsSlot}
-use Rattle.boot_cuts.specs.declared.answers.Class.{Class}
-use Rattle.boot_cuts.specs.declared.answers.Class.TheVariants.{Former, Finished, Whole, Tail, Mixed, Bootsel}
+use Rattle.cut_class.specs.declared.class.Class.{Class}
+use Rattle.cut_class.specs.declared.class.Class.TheVariants.{Former, Finished, Whole, Tail, Mixed, Bootsel}
 use Rattle.boot_cuts.specs.Classes.{IsClass}
 use Rattle.boot_cuts.specs.Classing.{class_of}
 use Rattle.boot_cuts.specs.Contents.{cut_contents}

@@ -1,6 +1,6 @@
 use Rattle.pico_board.specs.MemBoard.{state_of}
 use Rattle.std.proofs.Common.{length}
-use Rattle.boot_tape.specs.declared.moves.Move.TheVariants.{Done}
+use Rattle.boot_sweep.specs.declared.moves.Move.TheVariants.{Done}
 use Rattle.boot_tape.proofs.TraceLemmas.{ready-more}
 use Rattle.boot_tape.proofs.trace.Trace.complete.Goals as goal
 

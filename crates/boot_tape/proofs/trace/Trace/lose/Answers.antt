@@ -1,7 +1,7 @@
 use Rattle.pico_board.specs.MemBoard.{state_of}
 use Rattle.std.proofs.Common.{length, subst}
 use Rattle.boot_tape.specs.Playing.{HasPattern}
-use Rattle.boot_tape.specs.declared.moves.Move.TheVariants.{Torn}
+use Rattle.boot_sweep.specs.declared.moves.Move.TheVariants.{Torn}
 use Rattle.boot_tape.proofs.TraceLemmas.{ready-more}
 use Rattle.boot_tape.proofs.trace.Trace.lose.Goals as goal
 

@@ -8,7 +8,7 @@ use Rattle.boot_rules.specs.Chosen.{Chosen}
 use Rattle.worked_flashes.specs.Flashes.{arm_slot, bare_slot}
 use Rattle.worked_flashes.specs.Flashes.{beside_small, mapped_page, small_with, vector_page}
 use Rattle.worked_flashes.specs.Choices.{former_start, small_finished, small_former}
-use Rattle.boot_sweep.specs.Results.{IsFormer}
+use Rattle.boot_sweep.specs.Results.{DecidesAsBefore}
 use Rattle.law_plans.proofs.ExampleLemmas.{one-decision, start_of}
 use Rattle.law_plans.proofs.examples.cuts.the_three_results_of_a_cut.Goals as goal
 
@@ -22,7 +22,7 @@ before = beside_small bare_slot
 abbrev short : Content
 short = beside_small (arm_slot 0x0001000a)
 
-not-former : (c d : Content) (e : Decision) → Chosen c Arm Normal e → (Chosen d Arm Normal e → ⊥) → IsFormer c d Arm → ⊥
+not-former : (c d : Content) (e : Decision) → Chosen c Arm Normal e → (Chosen d Arm Normal e → ⊥) → DecidesAsBefore c d Arm → ⊥
 not-former c d e former never is =
     never (subst (λ x. Chosen d Arm Normal x) (one-decision c is.0 e is.1 former) is.2)
 

@@ -1,12 +1,12 @@
-//! What is done to a board.
+//! What is done to a board, step by step.
 
 use pico_board::Step;
 
 /// What is done to a board.
 #[derive(Clone, Copy)]
-pub enum Doing<'a> {
+pub enum Move<'a> {
     /// A step completes.
-    Done(&'a Step),
+    Done(Step),
     /// A step is cut, within it or before it, which leaves what the pattern says.
-    Torn(&'a Step, bool, &'a [u8]),
+    Torn(Step, bool, &'a [u8]),
 }

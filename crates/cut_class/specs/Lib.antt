@@ -1,0 +1,2 @@
+-- These definitions are this project's own, except where a comment names a public source.
+pub mod Classes
