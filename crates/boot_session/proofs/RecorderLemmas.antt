@@ -6,12 +6,12 @@ use Rattle.pico_board.specs.declared.Step.{Step}
 use Rattle.pico_board.specs.declared.window.Window.{Window}
 use Rattle.slot_choice.specs.declared.unit.SlotUnit.{SlotUnit}
 use Rattle.boot_session.specs.declared.recorder.Recorder.{Recorder}
-use Rattle.boot_session.specs.Recordings.{HasRecorded, kept_steps, next_outside, next_slot, next_steps, step_limit}
+use Rattle.boot_session.specs.Recordings.{HasRecorded, first_steps, next_outside, next_slot, next_steps}
 use Rattle.boot_session.specs.Slots.{is_in_slot, outside_from, slot_among, slot_of}
 
-pub kept-none : kept_steps [] ≡ []
-unfolding step_limit kept_steps
-kept-none = refl
+pub first-none : first_steps [] ≡ []
+unfolding first_steps
+first-none = refl
 
 take-none : {X : Type 0} (n : ℕ) → (let none : List X = [] in take n none ≡ none)
 take-none zero = refl
@@ -88,9 +88,9 @@ pub recorded-more : {B : Type 0} (r t : Recorder B) (h : List Step) (s : Step) �
     → t.units ≡ r.units → t.steps.items ≡ next_steps r.steps.items s → t.count ≡ min (r.count + 1) (2 ^ 32 - 1)
     → t.slot ≡ next_slot r.slot r.count r.units.items s → t.outside ≡ next_outside r.outside r.count t.slot s
     → HasRecorded t (h ++ s ∷ [])
-unfolding step_limit kept_steps
+unfolding first_steps
 recorded-more r t h s is units steps count slot outside = record {
-  kept = steps ∙ (ap (λ xs. next_steps xs s) is.kept ∙ sym (take-more_behind step_limit h s));
+  kept = steps ∙ (ap (λ xs. next_steps xs s) is.kept ∙ sym (take-more_behind 262145 h s));
   counted =
       let old = is.counted in let long = length-append h (s ∷ []) in omega (arith, count, old, long);
   slot = slot ∙ (slot-more r.units.items r.slot r.count h s is.counted is.slot

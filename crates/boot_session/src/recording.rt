@@ -3,7 +3,7 @@
 ghost use Rattle.std.specs.Prelude.{◌≡◌, ◌+◌, ◌^◌, ◌<◌, ◌≤◌, ◌&&◌, nat_le, List, [], ◌∷◌, ◌++◌, IfOk, vec_capacity};
 ghost use Rattle.pico_board.specs.declared.Step.{Step as Done};
 ghost use Rattle.boot_session.specs.Slots.{is_confined, is_in_slot, slot_among, slot_in_unit};
-ghost use Rattle.boot_session.specs.Recordings.{HasRecorded, IsHistoryOf, next_outside, next_slot, next_steps};
+ghost use Rattle.boot_session.specs.Recordings.{HasRecorded, next_outside, next_slot, next_steps};
 
 use crate::recorder::{Recorder, STEP_LIMIT};
 use arrayvec::ArrayVec;
@@ -106,11 +106,11 @@ fn next_outside(outside: Option<u32>, count: u32, slot: Option<Window>, step: &S
 
 /// Adds a step to the first ones, where there are fewer than may be kept.
 fn keep_step(steps: &mut Vec<Step>, step: &Step)
-    requires room { 262144 ≤ vec_capacity steps.old }
+    requires room { 262145 ≤ vec_capacity steps.old }
     ensures kept { steps.new.items ≡ next_steps steps.old.items step.now }
-    ensures room { 262144 ≤ vec_capacity steps.new }
+    ensures room { 262145 ≤ vec_capacity steps.new }
 {
-    if steps.len() < STEP_LIMIT {
+    if steps.len() <= STEP_LIMIT {
         match steps.push(*step) {
             Ok(()) => {}
             Err(_) => unreachable!(),
@@ -129,7 +129,7 @@ impl<B: Bench + Drop> Recorder<B> {
         ensures units { IfOk result (λ r. r.units ≡ units) }
         ensures none { IfOk result (λ r. HasRecorded r []) }
     {
-        let steps = Vec::with_capacity(alloc, STEP_LIMIT)?;
+        let steps = Vec::with_capacity(alloc, STEP_LIMIT + 1)?;
         Ok(Recorder {
             bench,
             units,
@@ -143,8 +143,9 @@ impl<B: Bench + Drop> Recorder<B> {
     /// Records a completed step.
     fn note(&mut self, step: &Step)
         ensures bench { self.new.bench ≡ self.old.bench }
-        ensures recorded { (h : List Done) → IsHistoryOf self.old h
-            → IsHistoryOf self.new (h ++ step.now ∷ []) }
+        ensures units { self.new.units ≡ self.old.units }
+        ensures recorded { (h : List Done) → HasRecorded self.old h
+            → HasRecorded self.new (h ++ step.now ∷ []) }
     {
         let slot = next_slot(self.slot, self.count, self.units.as_slice(), step);
         let outside = next_outside(self.outside, self.count, slot, step);
@@ -160,7 +161,7 @@ impl<B: Bench + Drop> Board for Recorder<B> {
 
     ghost state = { λ r. B.state r.bench };
 
-    ghost history = { IsHistoryOf };
+    ghost history = { IsHistoryOf B.state };
 
     fn flash_len(&self) -> u32 {
         self.bench.flash_len()

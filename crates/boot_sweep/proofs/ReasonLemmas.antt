@@ -3,7 +3,7 @@ use Rattle.std.proofs.Common.{◌≡◌, ℕ, suc, ◌+◌, ◌-◌, ◌^◌, �
 use Rattle.std.specs.Prelude.{if◌then◌else◌, ◌&&◌, not, is_none, is_some, nat_lt, option_map}
 use Rattle.std.specs.Option.{option_or}
 use Rattle.std.proofs.lemmas.Bool.{le-ltb, lt-ltb}
-use Rattle.std.proofs.lemmas.List.{length-take}
+use Rattle.std.proofs.lemmas.List.{length-take, take-take}
 use Rattle.pico_board.specs.declared.Step.{Step}
 use Rattle.pico_board.specs.declared.boot.Cpu.{Cpu}
 use Rattle.pico_board.specs.declared.boot.BootKind.TheVariants.{Normal}
@@ -18,7 +18,7 @@ use Rattle.boot_rules.specs.Tables.{table_in}
 use Rattle.boot_sweep.specs.declared.error.SweepError.{SweepError}
 use Rattle.boot_sweep.specs.declared.error.SweepError.TheVariants.{NotConfined, NotGated, TooManySteps, FormerInSlot, TableChanged}
 use Rattle.boot_session.specs.declared.recorder.Recorder.{Recorder}
-use Rattle.boot_session.specs.Recordings.{IsRecorderOf, kept_steps, step_limit}
+use Rattle.boot_session.specs.Recordings.{HasRecorded, IsRecorderOf, first_steps, kept_steps, step_limit}
 use Rattle.boot_sweep.specs.Refusals.{gains_table, starts_in_slot, sweep_refusal, ungated, where_}
 use Rattle.boot_session.specs.Slots.{is_in_slot, outside_from, session_slot}
 
@@ -64,9 +64,18 @@ same-reasons o p u v m n s t g h a b c d e =
     ∙ (ap (λ x. first_reason p v n x g) d
     ∙ ap (λ x. first_reason p v n t x) e)))
 
+first-kept : (steps : List Step) → kept_steps (first_steps steps) ≡ kept_steps steps
+unfolding kept_steps first_steps step_limit
+first-kept steps = take-take 262144 262145 steps (omega arith)
+
+-- the first steps, as many as are swept, from the recorder
+kept-of : (r : Recorder MemBoard) (steps : List Step) → HasRecorded r steps
+    → kept_steps r.steps.items ≡ kept_steps steps
+kept-of r steps is = ap kept_steps is.kept ∙ first-kept steps
+
 -- the reason, from the recorder
 pub reason-of : (r : Recorder MemBoard) (c : Content) (cpu : Cpu) (steps : List Step) → IsRecorderOf r c cpu steps
-    → sweep_refusal c cpu steps ≡ first_reason r.outside (ungated r.slot r.steps.items) (nat_lt step_limit r.count)
+    → sweep_refusal c cpu steps ≡ first_reason r.outside (ungated r.slot (kept_steps r.steps.items)) (nat_lt step_limit r.count)
     (starts_in_slot r.slot (decision_in c cpu Normal))
     (gains_table (table_in c) (table_in (state_of r.bench).content))
 unfolding sweep_refusal
@@ -77,29 +86,33 @@ reason-of r c cpu steps is =
     let count : length steps ≡ r.count = omega (arith, few, counted) in
     let d = decision_in c cpu Normal in
     same-reasons (outside_from 0 (session_slot c cpu steps) steps) r.outside
-    (ungated (session_slot c cpu steps) (kept_steps steps)) (ungated r.slot r.steps.items)
+    (ungated (session_slot c cpu steps) (kept_steps steps)) (ungated r.slot (kept_steps r.steps.items))
     (nat_lt step_limit (length steps)) (nat_lt step_limit r.count)
     (starts_in_slot (session_slot c cpu steps) d) (starts_in_slot r.slot d)
     (gains_table (table_in c) (table_in (after_all c steps)))
     (gains_table (table_in c) (table_in (state_of r.bench).content))
     (ap (λ w. outside_from 0 w steps) slot
     ∙ (sym (sat-outside r.slot steps is.few) ∙ sym is.recorded.outside))
-    (ap (λ w. ungated w (kept_steps steps)) slot ∙ ap (λ xs. ungated r.slot xs) (sym is.recorded.kept))
+    (ap (λ w. ungated w (kept_steps steps)) slot ∙ ap (λ xs. ungated r.slot xs) (sym (kept-of r steps is.recorded)))
     (ap (λ n. nat_lt step_limit n) count)
     (ap (λ w. starts_in_slot w d) slot)
     (ap (λ x. gains_table (table_in c) (table_in x)) (sym is.content))
 
 -- the reason, from what is found of the recorder
 pub reason-by : (r : Recorder MemBoard) (c : Content) (cpu : Cpu) (steps : List Step) (o u : Option ℕ) (m s g : Bool)
-    → IsRecorderOf r c cpu steps → r.outside ≡ o → ungated r.slot r.steps.items ≡ u → nat_lt step_limit r.count ≡ m
+    → IsRecorderOf r c cpu steps → r.outside ≡ o → ungated r.slot (kept_steps r.steps.items) ≡ u → nat_lt step_limit r.count ≡ m
     → starts_in_slot r.slot (decision_in c cpu Normal) ≡ s
     → gains_table (table_in c) (table_in (state_of r.bench).content) ≡ g
     → first_reason o u m s g ≡ sweep_refusal c cpu steps
 reason-by r c cpu steps o u m s g is one two three four five =
     sym (reason-of r c cpu steps is
-    ∙ same-reasons r.outside o (ungated r.slot r.steps.items) u (nat_lt step_limit r.count) m
+    ∙ same-reasons r.outside o (ungated r.slot (kept_steps r.steps.items)) u (nat_lt step_limit r.count) m
     (starts_in_slot r.slot (decision_in c cpu Normal)) s
     (gains_table (table_in c) (table_in (state_of r.bench).content)) g one two three four five)
+
+-- the first steps of a slice that has the recorder's
+pub kept-by : (kept steps read : List Step) → steps ≡ read → kept ≡ kept_steps steps → kept ≡ kept_steps read
+kept-by kept steps read same is = is ∙ ap kept_steps same
 
 pub many-is : (n : ℕ) → 262144 < n → nat_lt step_limit n ≡ true
 unfolding step_limit
@@ -109,13 +122,9 @@ pub few-is : (n : ℕ) → n ≤ 262144 → nat_lt step_limit n ≡ false
 unfolding step_limit
 few-is n few = le-ltb 262144 n few
 
-take-few : (steps : List Step) → length (kept_steps steps) ≤ step_limit
+pub kept-few : (steps : List Step) → length (kept_steps steps) ≤ step_limit
 unfolding kept_steps
-take-few steps = let long = length-take step_limit steps in omega (arith, long)
-
-pub kept-few : (r : Recorder MemBoard) (c : Content) (cpu : Cpu) (steps : List Step) → IsRecorderOf r c cpu steps
-    → length r.steps.items ≤ step_limit
-kept-few r c cpu steps is = subst (λ xs. length xs ≤ step_limit) (sym is.recorded.kept) (take-few steps)
+kept-few steps = let long = length-take step_limit steps in omega (arith, long)
 
 -- whether a table comes, by the code's two tests
 pub gains-none : (a b : Option Found) → is_none a ≡ false → gains_table a b ≡ false

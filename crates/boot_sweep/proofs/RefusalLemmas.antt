@@ -18,7 +18,7 @@ use Rattle.boot_rules.specs.Choosing.{decision_in}
 use Rattle.boot_rules.specs.Tables.{table_in}
 use Rattle.boot_sweep.specs.declared.error.SweepError.{SweepError}
 use Rattle.boot_sweep.specs.Refusals.{gains_table, is_start_in, starts_in_slot, sweep_refusal, ungated, where_}
-use Rattle.boot_session.specs.Recordings.{kept_steps, step_limit}
+use Rattle.boot_session.specs.Recordings.{first_steps, kept_steps, step_limit}
 use Rattle.boot_session.specs.Slots.{IsSlot, is_confined, outside_from, session_slot}
 use Rattle.boot_session.specs.CutSessions.{StartsOutside}
 use Rattle.boot_sweep.proofs.GateLemmas.{none-gated}
@@ -93,6 +93,10 @@ starts-elsewhere w (Start choice) e = λ same.
 pub kept-all : (steps : List Step) → length steps ≤ step_limit → kept_steps steps ≡ steps
 unfolding kept_steps
 kept-all steps few = take_all step_limit steps few
+
+pub first-all : (steps : List Step) → length steps ≤ step_limit → first_steps steps ≡ steps
+unfolding first_steps step_limit
+first-all steps few = take_all 262145 steps (omega (arith, few))
 
 -- what is known of a session that is swept
 pub record IsSweepable (c : Content) (cpu : Cpu) (steps : List Step) (w : Window) : Type 0 where

@@ -30,7 +30,7 @@ use Rattle.boot_sweep.specs.declared.results.SweepResults.{SweepResults}
 use Rattle.boot_sweep.specs.StepResults.{HasResults, IsResultsOf, results_from, sweep_results}
 use Rattle.boot_sweep.proofs.ChanceLemmas.{gated-confined, slot-inside, steps-in}
 use Rattle.boot_sweep.proofs.ReasonLemmas.{reason-of}
-use Rattle.boot_sweep.proofs.RefusalLemmas.{kept-all, no-reason, sweepable}
+use Rattle.boot_sweep.proofs.RefusalLemmas.{first-all, no-reason, sweepable}
 use Rattle.boot_session.proofs.SlotLemmas.{slot-found}
 
 -- the results by the decisions that were made before and after the session are those of the sweep
@@ -67,7 +67,7 @@ pub recorded-steps : (r : Recorder MemBoard) (c : Content) (cpu : Cpu) (steps : 
     → (r.steps.items ≡ steps) × All (IsStepIn (length c.flash)) r.steps.items × (length r.steps.items ≤ step_limit)
 recorded-steps r c cpu steps right is none =
     let few = ltb-false step_limit (length steps) (no-reason c cpu steps none).few in
-    let same = is.recorded.kept ∙ kept-all steps few in (
+    let same = is.recorded.kept ∙ first-all steps few in (
       same,
       subst (λ xs. All (IsStepIn (length c.flash)) xs) (sym same)
           (All-from_recursion (IsStepIn (length c.flash)) steps (ranges-of c cpu steps right none)),

@@ -12,7 +12,7 @@ ghost use Rattle.boot_rules.specs.Choosing.{decision_in};
 ghost use Rattle.boot_script.specs.Judging.{IsScript};
 ghost use Rattle.boot_script.specs.Written.{IsKept};
 ghost use Rattle.boot_sweep.specs.declared.error.SweepError.TheVariants.{Memory};
-ghost use Rattle.boot_session.specs.Recordings.{IsRecorderOf};
+ghost use Rattle.boot_session.specs.Recordings.{IsRecorderOf, kept_steps};
 ghost use Rattle.boot_sweep.specs.Refusals.{IsRefusedSession, IsSwept, is_start_in, starts_in_slot, sweep_refusal};
 ghost use Rattle.boot_session.specs.Scripts.{content_of, script_session};
 ghost use Rattle.boot_session.specs.Standing.{IsUnarmed};
@@ -27,7 +27,7 @@ use crate::results::{CutResult, Ends, StepResults, SweepResults, result_on};
 use crate::sweeping::results_of;
 use boot_rules::{Decision, decide, find_table};
 use boot_session::{Recorder, STEP_LIMIT, session_on};
-use pico_board::{Board, BootKind, Cpu, MemBoard, Window};
+use pico_board::{Board, BootKind, Cpu, MemBoard, Step, Window};
 use sector_pool::SectorPool;
 use std::alloc::{AllocError, Global};
 
@@ -72,6 +72,17 @@ fn starts_in_slot(slot: Option<Window>, decision: &Decision) -> bool
     }
 }
 
+/// The steps that a recorder keeps, as many as are swept at most.
+fn kept_steps(steps: &[Step]) -> &[Step]
+    ensures { result.now ≡ kept_steps steps.now }
+{
+    if steps.len() > STEP_LIMIT {
+        &steps[..STEP_LIMIT]
+    } else {
+        steps
+    }
+}
+
 /// Why the recorded session is not swept, for a board before it and the decision there.
 fn sweep_refusal<B: Board>(
     board: &B,
@@ -90,7 +101,7 @@ fn sweep_refusal<B: Board>(
     if let Some(k) = recorder.outside {
         return Some(SweepError::NotConfined(k));
     }
-    if let Some(k) = ungated(recorder.slot, &recorder.steps) {
+    if let Some(k) = ungated(recorder.slot, kept_steps(&recorder.steps)) {
         return Some(SweepError::NotGated(k));
     }
     if recorder.count > STEP_LIMIT as u32 {

@@ -41,11 +41,11 @@ use Rattle.boot_machine.specs.Moves.{IsLost, Moves, MovesBy, armed_for, effect, 
 use Rattle.boot_machine.specs.Serving.{ServedEvent, block_served, blocks_of, command_served, followed, followed_by, is_hosted, ram_place, ruling_on, served_event, serves, serves_ram, table_of_found, taken_in, uf2_served}
 use Rattle.boot_machine.specs.Standing.{IsStep, Serves, Stands, StandsAt, is_bootsel}
 use Rattle.boot_tape.specs.declared.notes.Behind.{Behind}
-use Rattle.boot_tape.specs.declared.tracer.Tracer.{Tracer}
-use Rattle.boot_tape.specs.Playing.{HasCome, IsStepped, asked_effect, behind_in, traced_state}
+use Rattle.boot_session.specs.declared.recorder.Recorder.{Recorder}
+use Rattle.boot_tape.specs.Playing.{HasCome, IsStepped, asked_effect, behind_in, recorded_state}
 use Rattle.boot_tape.specs.Traces.{behind, behind_asked, behind_other, behind_served, came_of, image_of, outcome_before, own_steps, served_in, served_steps}
-use Rattle.boot_tape.specs.Tracing.{HasTraced, first_steps}
-use Rattle.boot_tape.proofs.PlayLemmas.{no-loss, stepped-by}
+use Rattle.boot_session.specs.Recordings.{IsHistoryOf, IsRecordOf, first_steps}
+use Rattle.boot_tape.proofs.PlayLemmas.{no-loss, records-more, stepped-by}
 
 -- what holds of both holds of either
 either : {A : Type 0} (P : A → Type 0) (t : Bool) (a b : A) → P a → P b → P (if t then a else b)
@@ -142,24 +142,24 @@ abbrev pub served_machine : Content → Cpu → ServedEvent → MachineView
 served_machine c cpu s =
     record { content = after_all c s.steps; armed = Some None; cpu = cpu; place = s.place }
 
--- what was served was done and traced
-record IsDone (old : Parts (Tracer MemBoard)) (c : Content) (cpu : Cpu) (s : ServedEvent) (asked : Option BootKind)
-    (outcome : EventOutcome) (mid : Parts (Tracer MemBoard)) : Type 0 where
-  stands : Stands traced_state mid (served_machine c cpu s)
+-- what was served was done and recorded
+record IsDone (old : Parts (Recorder MemBoard)) (c : Content) (cpu : Cpu) (s : ServedEvent) (asked : Option BootKind)
+    (outcome : EventOutcome) (mid : Parts (Recorder MemBoard)) : Type 0 where
+  stands : Stands recorded_state mid (served_machine c cpu s)
   asks : asked ≡ s.boot
   told : outcome ≡ s.outcome
-  traced_ : Extends (HasTraced state_of) old.board s.steps mid.board
+  recorded : Extends (IsRecordOf state_of) old.board s.steps mid.board
 
-served-done : (old mid : Parts (Tracer MemBoard)) (m : MachineView) (host : Host) (event : EventView)
-    (asked : Option BootKind) (outcome : EventOutcome) → StandsAt old (InBootsel host) → Stands traced_state old m
+served-done : (old mid : Parts (Recorder MemBoard)) (m : MachineView) (host : Host) (event : EventView)
+    (asked : Option BootKind) (outcome : EventOutcome) → StandsAt old (InBootsel host) → Stands recorded_state old m
     → m.armed ≡ Some None
-    → Serves traced_state (HasTraced state_of) old (λ c cpu host. served_event c cpu host event) asked mid outcome
+    → Serves recorded_state (IsHistoryOf state_of) old (λ c cpu host. served_event c cpu host event) asked mid outcome
     → IsDone old m.content m.cpu (served_event m.content m.cpu host event) asked outcome mid
 served-done old mid m host event asked outcome at stands none serves =
     let is = serves host at in
-    let c = (traced_state old.board).content in
+    let c = (recorded_state old.board).content in
     let s = served_event c old.cpu host event in
-    let whole = all-served traced_state (HasTraced state_of) old.board mid.board s.steps is.ok
+    let whole = all-served recorded_state (IsHistoryOf state_of) old.board mid.board s.steps is.ok
     (sym stands.armed ∙ none) is.by.board in
     let done : IsDone old c old.cpu s asked outcome mid = record {
       stands = record {
@@ -170,55 +170,55 @@ served-done old mid m host event asked outcome at stands none serves =
       };
       asks = subst (λ b. OnTrue b (asked ≡ s.boot)) whole.0 is.asked;
       told = subst (λ b. OnTrue b (outcome ≡ s.outcome)) whole.0 is.by.told;
-      traced_ = whole.1.recorded;
+      recorded = records-more old.board mid.board s.steps whole.1.recorded;
     } in
     subst (λ x. IsDone old m.content x (served_event m.content x host event) asked outcome mid) (sym stands.cpu)
     (subst (λ x. IsDone old x old.cpu (served_event x old.cpu host event) asked outcome mid) (sym stands.content) done)
 
 -- what was served, with the boot that it asks for
-with-boot : (old mid new : Parts (Tracer MemBoard)) (m : MachineView) (s : ServedEvent) (boot : Option BootKind)
+with-boot : (old mid new : Parts (Recorder MemBoard)) (m : MachineView) (s : ServedEvent) (boot : Option BootKind)
     → IsOn s.place
-    → Extends (HasTraced state_of) old.board s.steps mid.board
+    → Extends (IsRecordOf state_of) old.board s.steps mid.board
     → IsStepped mid (served_machine m.content m.cpu s) (asked_effect (served_machine m.content m.cpu s) boot) new
     → IsStepped old m (followed_by m.content m.cpu s boot) new
 with-boot old mid new m s None on first second = record {
   stands = second.stands;
-  traced_ = λ h is. subst (HasTraced state_of new.board) (append-nil (h ++ s.steps)) (second.traced_ (h ++ s.steps) (first h is));
+  recorded = λ h is. subst (IsRecordOf state_of new.board) (append-nil (h ++ s.steps)) (second.recorded (h ++ s.steps) (first h is));
 }
 with-boot old mid new m s (Some kind) on first second =
     let d = after_all m.content s.steps in
     let boot = booted d m.cpu kind (Some s.outcome) in
     let is : IsStepped mid (served_machine m.content m.cpu s) (booted d m.cpu kind None) new =
     subst (λ e. IsStepped mid (served_machine m.content m.cpu s) e new) (reset-boots d m.cpu s.place kind on) second in record {
-      stands = subst (λ (x : Content). Stands traced_state new (record {
+      stands = subst (λ (x : Content). Stands recorded_state new (record {
         content = x;
         armed = Some None;
         cpu = m.cpu;
         place = boot.place;
       })) (sym (after_all-append m.content s.steps boot.steps)) is.stands;
-      traced_ = λ h before. subst (HasTraced state_of new.board) (append_assoc h s.steps boot.steps)
-          (is.traced_ (h ++ s.steps) (first h before));
+      recorded = λ h before. subst (IsRecordOf state_of new.board) (append_assoc h s.steps boot.steps)
+          (is.recorded (h ++ s.steps) (first h before));
     }
 
-come-host : (old mid new : Parts (Tracer MemBoard)) (m : MachineView) (host : Host) (event : EventView)
+come-host : (old mid new : Parts (Recorder MemBoard)) (m : MachineView) (host : Host) (event : EventView)
     (asked : Option BootKind) (outcome : EventOutcome) (own : ℕ) → is_hosted event ≡ true → m.place ≡ InBootsel host
     → IsDone old m.content m.cpu (served_event m.content m.cpu host event) asked outcome mid
     → own ≡ length mid.board.steps.items - length old.board.steps.items
-    → ((n : MachineView) → Stands traced_state mid n → n.armed ≡ Some None → IsStepped mid n (asked_effect n asked) new)
+    → ((n : MachineView) → Stands recorded_state mid n → n.armed ≡ Some None → IsStepped mid n (asked_effect n asked) new)
     → HasCome old m event (record { outcome = outcome; own = own; behind = behind_asked asked }) new
 come-host old mid new m host event asked outcome own hosted at done own_is boots =
     let s = served_event m.content m.cpu host event in
     let n = served_machine m.content m.cpu s in
     let is = served-is m event host hosted at in record {
       did = subst (λ e. IsStepped old m e new) (sym (effect-served m event host hosted at))
-          (with-boot old mid new m s s.boot (served-keeps m.content m.cpu host event) done.traced_
+          (with-boot old mid new m s s.boot (served-keeps m.content m.cpu host event) done.recorded
           (subst (λ a. IsStepped mid n (asked_effect n a) new) done.asks (boots n done.stands refl)));
       outcome = done.told ∙ sym (ap (λ o. outcome_before o (effect m event)) is);
       behind_ = ap behind_asked done.asks ∙ sym (ap (λ o. behind_served o m.place event) is);
       own = λ h traced.
           own_is
-          ∙ (ap (λ (xs : List Step). length xs - length old.board.steps.items) (done.traced_ h traced).kept
-          ∙ (ap (λ (xs : List Step). length (first_steps (h ++ s.steps)) - length xs) traced.kept
+          ∙ (ap (λ (xs : List Step). length xs - length old.board.steps.items) (done.recorded h traced).known.kept
+          ∙ (ap (λ (xs : List Step). length (first_steps (h ++ s.steps)) - length xs) traced.known.kept
           ∙ ap (λ (xs : List Step). length (first_steps (h ++ xs)) - length (first_steps h)) (sym (ap served_steps is))));
     }
 
@@ -236,12 +236,12 @@ pub is-hosted : (state : State) (event : EventView) → (is_bootsel state && is_
 is-hosted state event both = (and_parts (is_bootsel state) (is_hosted event) both).1
 
 -- a host's event that is served, and the boot that it asks for
-pub come-served : (old mid new : Parts (Tracer MemBoard)) (m : MachineView) (event : EventView)
+pub come-served : (old mid new : Parts (Recorder MemBoard)) (m : MachineView) (event : EventView)
     (asked : Option BootKind) (outcome : EventOutcome) (own : ℕ) → (is_bootsel old.state && is_hosted event) ≡ true
-    → Serves traced_state (HasTraced state_of) old (λ c cpu host. served_event c cpu host event) asked mid outcome
+    → Serves recorded_state (IsHistoryOf state_of) old (λ c cpu host. served_event c cpu host event) asked mid outcome
     → own ≡ length mid.board.steps.items - length old.board.steps.items
-    → ((n : MachineView) → Stands traced_state mid n → n.armed ≡ Some None → IsStepped mid n (asked_effect n asked) new)
-    → Stands traced_state old m → armed_for m.armed event ≡ Some None
+    → ((n : MachineView) → Stands recorded_state mid n → n.armed ≡ Some None → IsStepped mid n (asked_effect n asked) new)
+    → Stands recorded_state old m → armed_for m.armed event ≡ Some None
     → HasCome old m event (record { outcome = outcome; own = own; behind = behind_asked asked }) new
 come-served old mid new m event asked outcome own both serves own_is boots stands none =
     go m.place refl (is-serving old.state event both) stands.place
@@ -262,7 +262,7 @@ come-served old mid new m event asked outcome own both serves own_is boots stand
         own_is boots
 
 -- an event that is not served
-unserved-on : (old : Parts (Tracer MemBoard)) (c : Content) (cpu : Cpu) (place : StateView) (event : EventView)
+unserved-on : (old : Parts (Recorder MemBoard)) (c : Content) (cpu : Cpu) (place : StateView) (event : EventView)
     → (is_bootsel old.state && is_hosted event) ≡ false → StandsAt old place → served_in c cpu place event ≡ None
 unserved-on old c cpu Off event passed stands = refl
 unserved-on old c cpu (Running program) event passed stands = refl
@@ -307,7 +307,7 @@ running-behind program EventView.PowerOn = refl
 running-behind program (EventView.Reset kind) = refl
 running-behind program EventView.Buy = refl
 
-other-behind : (old : Parts (Tracer MemBoard)) (place : StateView) (event : EventView) → StandsAt old place
+other-behind : (old : Parts (Recorder MemBoard)) (place : StateView) (event : EventView) → StandsAt old place
     → behind_in old.state event ≡ behind_other place event
 other-behind old Off event stands = ap (λ s. behind_in s event) stands ∙ off-behind event
 other-behind old (InBootsel host) event stands =
@@ -317,10 +317,10 @@ other-behind old (Running (FromFlash choice)) event stands =
 other-behind old (Running (FromRam image)) event stands =
     ap (λ s. behind_in s event) stands.state ∙ running-behind (FromRam image) event
 
-pub come-passed : (old new : Parts (Tracer MemBoard)) (m : MachineView) (event : EventView) (outcome : EventOutcome)
+pub come-passed : (old new : Parts (Recorder MemBoard)) (m : MachineView) (event : EventView) (outcome : EventOutcome)
     (found : Behind) → found ≡ behind_in old.state event
-    → (is_bootsel old.state && is_hosted event) ≡ false → Stands traced_state old m → armed_for m.armed event ≡ Some None
-    → IsStep traced_state (HasTraced state_of) old m event new outcome
+    → (is_bootsel old.state && is_hosted event) ≡ false → Stands recorded_state old m → armed_for m.armed event ≡ Some None
+    → IsStep recorded_state (IsHistoryOf state_of) old m event new outcome
     → ((n : MachineView) (came : EventOutcome) → Moves m event n came → came ≡ event_outcomes.PowerLost
     → IsLost m (armed_for m.armed event) (effect m event) n came)
     → HasCome old m event (record { outcome = outcome; own = 0; behind = found }) new
@@ -337,7 +337,7 @@ come-passed old new m event outcome found found_is other stands none step says =
     }
 
 -- a boot that no event asks for
-pub none-asked : (old : Parts (Tracer MemBoard)) (m : MachineView) → Stands traced_state old m → m.armed ≡ Some None
+pub none-asked : (old : Parts (Recorder MemBoard)) (m : MachineView) → Stands recorded_state old m → m.armed ≡ Some None
     → IsStepped old m (asked_effect m None) old
 none-asked old m stands none = record {
   stands = record {
@@ -346,5 +346,5 @@ none-asked old m stands none = record {
     cpu = stands.cpu;
     place = stands.place;
   };
-  traced_ = λ h is. subst (HasTraced state_of old.board) (sym (append-nil h)) is;
+  recorded = λ h is. subst (IsRecordOf state_of old.board) (sym (append-nil h)) is;
 }

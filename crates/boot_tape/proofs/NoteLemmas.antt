@@ -28,7 +28,7 @@ use Rattle.boot_tape.specs.CutMoves.{CutMoves, cut_moves}
 use Rattle.boot_tape.specs.Doers.{doers, doers_behind, is_own_whole, note_doers}
 use Rattle.boot_tape.specs.Examples.{noting}
 use Rattle.boot_tape.specs.Traces.{IsBuy, behind, behind_asked, behind_other, behind_served, came_of, event_moves, moves_in, note_of, noted, outcome_before, own_moves, own_steps, served_in, served_steps}
-use Rattle.boot_tape.specs.Tracing.{first_steps}
+use Rattle.boot_session.specs.Recordings.{first_steps}
 use Rattle.boot_tape.proofs.TraceLemmas.{first-moves, first-whole, front-moves}
 
 -- these steps come first

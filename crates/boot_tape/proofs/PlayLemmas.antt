@@ -12,6 +12,7 @@ use Rattle.pico_board.specs.declared.boot.Cpu.{Cpu}
 use Rattle.pico_board.specs.Content.{Content}
 use Rattle.pico_board.specs.Cuts.{Cut, CutOutcome, cut_steps, cut_with}
 use Rattle.pico_board.specs.MemBoard.{state_of}
+use Rattle.pico_board.specs.Histories.{Extends}
 use Rattle.pico_board.specs.Steps.{IsStepIn, after, after_all}
 use Rattle.boot_script.specs.Events.{EventView, IsWritableEvent}
 use Rattle.boot_machine.specs.declared.parts.Parts.{Parts}
@@ -27,12 +28,12 @@ use Rattle.boot_tape.specs.declared.notes.Came.{Came}
 use Rattle.boot_tape.specs.declared.notes.Behind.TheVariants.{Nothing}
 use Rattle.boot_tape.specs.declared.trace.ArmedCut.{ArmedCut}
 use Rattle.boot_tape.specs.declared.trace.Trace.{Trace}
-use Rattle.boot_tape.specs.declared.tracer.Tracer.{Tracer}
+use Rattle.boot_session.specs.declared.recorder.Recorder.{Recorder}
 use Rattle.boot_session.specs.Standing.{IsUnarmed}
 use Rattle.boot_tape.specs.Moving.{AreMovesIn, after_moves, done_count, MoveView, move_from, moves_from, traced_by}
-use Rattle.boot_tape.specs.Playing.{CutMoves, HasCome, HasFollowed, HasPattern, IsFollowed, IsLeftBy, IsLong, IsPlay, IsPlayedTo, IsReady, IsStepped, IsTraceOf, bare, cut_from, cut_in, cut_moves, told_of, traced_state, with_cut, with_notes}
+use Rattle.boot_tape.specs.Playing.{CutMoves, HasCome, HasFollowed, HasPattern, IsFollowed, IsLeftBy, IsLong, IsPlay, IsPlayedTo, IsReady, IsStepped, IsTraceOf, bare, cut_from, cut_in, cut_moves, told_of, recorded_state, with_cut, with_notes}
 use Rattle.boot_tape.specs.Traces.{Traced, behind, came_of, completed, event_moves, event_steps, moves_in, note_of, noted, outcome_before, own_steps, served_in, step_numbers, traced, traced_from}
-use Rattle.boot_tape.specs.Tracing.{HasTraced, first_steps}
+use Rattle.boot_session.specs.Recordings.{HasRecorded, IsHistoryOf, IsRecordOf, first_steps, mark}
 use Rattle.boot_tape.specs.Examples.{noting}
 use Rattle.boot_tape.proofs.NoteLemmas.{note-armed, note-is}
 use Rattle.boot_tape.proofs.TraceLemmas.{after-append, completed-more, count-append, count-traced, cut-steps, first-all, first-moves, length-traced, prefix-lost, traced-append, traced-steps, whole-is}
@@ -84,30 +85,19 @@ fresh-of n h es few =
     ∙ drop-append_seam h (take (n - length h) es))
 
 -- what the machine's board did in an event
-pub record IsDoneBy (om nm : Parts (Tracer MemBoard)) (mid : MachineView) (e : Effect) : Type 0 where
-  pub stands : Stands traced_state nm (record {
+pub record IsDoneBy (om nm : Parts (Recorder MemBoard)) (mid : MachineView) (e : Effect) : Type 0 where
+  pub stands : Stands recorded_state nm (record {
     content = after_all mid.content e.steps;
     armed = Some None;
     cpu = mid.cpu;
     place = e.place;
   })
   pub kept : nm.board.steps.items ≡ first_steps (om.board.steps.items ++ e.steps)
-  pub inside : AllByRecursion (IsStepIn (length (after_all mid.content e.steps).flash))
-      (om.board.steps.items ++ e.steps)
+  pub record_ : IsRecordOf state_of nm.board (om.board.steps.items ++ e.steps)
 
--- what the tracer has kept is all that its board did
-former-traced : (om : Parts (Tracer MemBoard)) (ot : Trace) (mid : MachineView) → IsFollowed om ot mid
-    → ot.done ≤ 262144 → HasTraced state_of om.board om.board.steps.items
-former-traced om ot mid followed short =
-    let h = om.board.steps.items in
-    let few = followed.few in record {
-      kept = sym (first-all h (omega (arith, few, short)));
-      inside = subst (λ (c : Content). AllByRecursion (IsStepIn (length c.flash)) h) followed.stands.content followed.inside;
-    }
-
-pub done-by : (om nm : Parts (Tracer MemBoard)) (ot : Trace) (mid : MachineView) (event : EventView) (came : Came)
+pub done-by : (om nm : Parts (Recorder MemBoard)) (ot : Trace) (mid : MachineView) (event : EventView) (came : Came)
     → cut_in event ≡ None → IsFollowed om ot mid → ot.done ≤ 262144
-    → ((n : MachineView) → Stands traced_state om n → armed_for n.armed event ≡ Some None
+    → ((n : MachineView) → Stands recorded_state om n → armed_for n.armed event ≡ Some None
     → HasCome om n event came nm)
     → IsDoneBy om nm mid (effect mid event)
 done-by om nm ot mid event came uncut followed short stepped =
@@ -115,24 +105,23 @@ done-by om nm ot mid event came uncut followed short stepped =
     let is : IsStepped om (bare mid) (effect mid event) nm =
     subst (λ e. IsStepped om (bare mid) e nm) (effect-bare mid event)
     (stepped (bare mid) followed.stands (armed-stays (Some None) event uncut)).did in
-    let now = is.traced_ h (former-traced om ot mid followed short) in record {
+    let now = is.recorded h followed.recorded in record {
       stands = is.stands;
-      kept = now.kept;
-      inside = subst (λ (c : Content). AllByRecursion (IsStepIn (length c.flash)) (h ++ (effect mid event).steps))
-          (sym is.stands.content) now.inside;
+      kept = now.known.kept;
+      record_ = now;
     }
 
 -- what came of the event, and what was traced of its own steps
-pub record IsToldBy (om : Parts (Tracer MemBoard)) (mid : MachineView) (event : EventView) (came : Came)
+pub record IsToldBy (om : Parts (Recorder MemBoard)) (mid : MachineView) (event : EventView) (came : Came)
     : Type 0 where
   pub outcome : came.outcome ≡ came_of mid event
   pub behind_ : came.behind ≡ behind mid event
   pub own : came.own
       ≡ length (first_steps (om.board.steps.items ++ own_steps mid event)) - length om.board.steps.items
 
-pub told-by : (om nm : Parts (Tracer MemBoard)) (ot : Trace) (mid : MachineView) (event : EventView) (came : Came)
+pub told-by : (om nm : Parts (Recorder MemBoard)) (ot : Trace) (mid : MachineView) (event : EventView) (came : Came)
     → cut_in event ≡ None → IsFollowed om ot mid → ot.done ≤ 262144
-    → ((n : MachineView) → Stands traced_state om n → armed_for n.armed event ≡ Some None
+    → ((n : MachineView) → Stands recorded_state om n → armed_for n.armed event ≡ Some None
     → HasCome om n event came nm)
     → IsToldBy om mid event came
 told-by om nm ot mid event came uncut followed short stepped =
@@ -143,7 +132,7 @@ told-by om nm ot mid event came uncut followed short stepped =
       outcome = is.outcome
           ∙ ap (outcome_before (served_in mid.content mid.cpu mid.place event)) (effect-bare mid event);
       behind_ = is.behind_;
-      own = is.own h (former-traced om ot mid followed short)
+      own = is.own h followed.recorded
           ∙ ap (λ (xs : List Step). length (first_steps (h ++ own_steps mid event)) - length xs)
           (first-all h (omega (arith, few, short)));
     }
@@ -279,7 +268,7 @@ moved-count ot nt w number whole former is former_is =
     let sum = length-append (moves_from ot.moves.items) w.moves in omega (arith, both, now, past, sum, former_is)
 
 -- what was noted of the event is its note
-noted-on : (om : Parts (Tracer MemBoard)) (ot nt u : Trace) (mid : MachineView) (event : EventView) (number : ℕ)
+noted-on : (om : Parts (Recorder MemBoard)) (ot nt u : Trace) (mid : MachineView) (event : EventView) (number : ℕ)
     (whole : Bool) (fresh : List Step) (came : Came) (former : ℕ) → IsFollowed om ot mid
     → ot.done ≤ 262144 → mid.armed ≡ Some (told_of ot) → cut_in event ≡ None → IsToldBy om mid event came
     → IsFront om.board.steps.items (effect mid event).steps fresh
@@ -306,10 +295,10 @@ noted-on om ot nt u mid event number whole fresh came former followed short told
     (omega (arith, few, short)) (omega (arith, size, long, most)) says.behind_
     (moved-count ot nt w number whole former is former_is) is.whole_))
 
-pub play-on : (om nm : Parts (Tracer MemBoard)) (ot nt u : Trace) (m : MachineView) (all left : List EventView)
+pub play-on : (om nm : Parts (Recorder MemBoard)) (ot nt u : Trace) (m : MachineView) (all left : List EventView)
     (event : EventView) (number : ℕ) (whole : Bool) (fresh : List Step) (came : Came) (former : ℕ)
     → IsPlay om ot m all (event ∷ left) number → cut_in event ≡ None
-    → ((n : MachineView) → Stands traced_state om n → armed_for n.armed event ≡ Some None
+    → ((n : MachineView) → Stands recorded_state om n → armed_for n.armed event ≡ Some None
     → HasCome om n event came nm)
     → fresh ≡ drop (length om.board.steps.items) nm.board.steps.items
     → IsLeftBy ot (cut_moves (told_of ot) fresh) number whole nt → ot.done ≤ 262144
@@ -360,19 +349,17 @@ play-on om nm ot nt u m all left event number whole fresh came former play uncut
                     place = subst (λ b. StandsAt nm (if b then e.place else Off)) (sym wh) done.stands.place;
                   };
                   few = omega (arith, kept_long, long, same_long, few, count, size);
-                  inside = subst (λ xs. AllByRecursion (IsStepIn (length (after_moves mid.content w.moves).flash)) xs) (sym kept)
-                      (subst (λ (c : Content). AllByRecursion (IsStepIn (length c.flash)) (h ++ e.steps)) (sym left_as)
-                      done.inside);
+                  recorded = subst (λ xs. IsRecordOf state_of nm.board xs) (sym kept) done.record_;
                 };
             stops = λ no. ap (λ b. if b then e.place else Off) (sym is.whole_ ∙ no);
           },
     ))
 
 -- a machine that is made anew
-pub made-anew : (machine : Parts (Tracer MemBoard)) (trace : Trace) (m mid : MachineView) (all left : List EventView)
+pub made-anew : (machine : Parts (Recorder MemBoard)) (trace : Trace) (m mid : MachineView) (all left : List EventView)
     (number : ℕ) (cpu : Cpu) → m.cpu ≡ cpu → IsPlayedTo trace m all left number mid → mid.place ≡ Off
-    → Stands traced_state machine (powerless (state_of trace.board).content cpu)
-    → machine.board.steps.items ≡ [] → IsPlay machine trace m all left number
+    → Stands recorded_state machine (powerless (state_of trace.board).content cpu)
+    → HasRecorded machine.board [] → IsPlay machine trace m all left number
 made-anew machine trace m mid all left number cpu is to off stands none = record {
   mid = mid;
   to = to;
@@ -383,16 +370,18 @@ made-anew machine trace m mid all left number cpu is to off stands none = record
       cpu = to.cpu ∙ (is ∙ stands.cpu);
       place = subst (λ p. StandsAt machine p) (sym off) stands.place;
     };
-    few = let n = ap (λ (xs : List Step). length xs) none in omega (arith, n);
-    inside = subst (λ xs. AllByRecursion (IsStepIn (length mid.content.flash)) xs) (sym none) tt;
+    few =
+        let n = ap (λ (xs : List Step). length xs) (none.kept ∙ first-all [] (omega arith)) in omega (arith, n);
+    recorded = subst (λ xs. IsRecordOf state_of machine.board xs) (sym (none.kept ∙ first-all [] (omega arith)))
+        (record { known = none; inside = tt });
   };
 }
 
 -- before the first event
-pub play-first : (machine : Parts (Tracer MemBoard)) (trace : Trace) (c : Content) (cpu : Cpu)
+pub play-first : (machine : Parts (Recorder MemBoard)) (trace : Trace) (c : Content) (cpu : Cpu)
     (events : List EventView) → (state_of trace.board).content ≡ c → trace.moves.items ≡ [] → trace.numbers.items ≡ []
-    → trace.done ≡ 0 → trace.armed ≡ None → trace.notes.items ≡ [] → Stands traced_state machine (powerless c cpu)
-    → machine.board.steps.items ≡ [] → IsPlay machine trace (powerless c cpu) events events 0
+    → trace.done ≡ 0 → trace.armed ≡ None → trace.notes.items ≡ [] → Stands recorded_state machine (powerless c cpu)
+    → HasRecorded machine.board [] → IsPlay machine trace (powerless c cpu) events events 0
 play-first machine trace c cpu events board moves numbers done armed notes stands none =
     made-anew machine trace (powerless c cpu) (powerless c cpu) events events 0 cpu refl (record {
       numbers = ap (λ ns. ns ++ step_numbers 0 (powerless c cpu) events) numbers;
@@ -406,7 +395,7 @@ play-first machine trace c cpu events board moves numbers done armed notes stand
       last = refl;
       counted = done ∙ ap (λ ms. done_count (moves_from ms)) (sym moves);
       size = ap (λ (x : Content). length x.flash) board;
-    }) refl (subst (λ x. Stands traced_state machine (powerless x cpu)) (sym board) stands) none
+    }) refl (subst (λ x. Stands recorded_state machine (powerless x cpu)) (sym board) stands) none
 
 take-nothing : {X : Type 0} (n : ℕ) → (let none : List X = [] in take n none ≡ none)
 take-nothing zero = refl
@@ -417,7 +406,7 @@ completed-none None = refl
 completed-none (Some cut) = take-nothing cut.left
 
 -- an event that arms a cut
-pub play-armed : (machine : Parts (Tracer MemBoard)) (old new : Trace) (m : MachineView) (all left : List EventView)
+pub play-armed : (machine : Parts (Recorder MemBoard)) (old new : Trace) (m : MachineView) (all left : List EventView)
     (event : EventView) (number : ℕ) (cut : ArmedCut) → cut_in event ≡ Some (cut_from cut)
     → new ≡ with_notes (with_cut old cut) new
     → new.notes.items ≡ old.notes.items ++ noting event_outcomes.CutArmed 0 Nothing 0 true ∷ []
@@ -462,7 +451,7 @@ play-armed machine old new m all left (EventView.Cut n within pattern) number cu
       followed = record {
         stands = play.followed.stands;
         few = play.followed.few;
-        inside = play.followed.inside;
+        recorded = play.followed.recorded;
       };
     })
 play-armed machine old new m all left EventView.End number cut is same more play = cc
@@ -493,10 +482,15 @@ no-loss m e n outcome lost =
     let no : true ≡ false = sym (ap (λ (o : CutOutcome). o.answer) (told-none e.steps m.content))
     ∙ lost.armed_cut.answer in cc
 
+-- the steps of a recorder's histories are what it knows of
+pub records-more : (old new : Recorder MemBoard) (steps : List Step) → Extends (IsHistoryOf state_of) old steps new
+    → Extends (IsRecordOf state_of) old steps new
+records-more old new steps more = λ h is. (more (mark old.units.items ∷ h) (refl, is)).1
+
 -- an event on a board of which no cut is armed does its steps whole
-pub stepped-by : (old : Parts (Tracer MemBoard)) (m : MachineView) (event : EventView) (new : Parts (Tracer MemBoard))
+pub stepped-by : (old : Parts (Recorder MemBoard)) (m : MachineView) (event : EventView) (new : Parts (Recorder MemBoard))
     (outcome : EventOutcome) → armed_for m.armed event ≡ Some None
-    → IsStep traced_state (HasTraced state_of) old m event new outcome
+    → IsStep recorded_state (IsHistoryOf state_of) old m event new outcome
     → ((n : MachineView) (came : EventOutcome) → Moves m event n came → came ≡ event_outcomes.PowerLost
     → IsLost m (armed_for m.armed event) (effect m event) n came)
     → IsStepped old m (effect m event) new
@@ -516,11 +510,11 @@ stepped-by old m event new outcome none is says =
         cpu = sym done.cpu ∙ is.stands.cpu;
         place = subst (λ p. StandsAt new p) done.place is.stands.place;
       };
-      traced_ = is.recorded kept;
+      recorded = records-more old.board new.board (effect m event).steps (is.recorded kept);
     }
 
 -- the whole trace of a script
-pub traced-end : (machine : Parts (Tracer MemBoard)) (trace_ : Trace) (c : Content) (cpu : Cpu)
+pub traced-end : (machine : Parts (Recorder MemBoard)) (trace_ : Trace) (c : Content) (cpu : Cpu)
     (events left : List EventView) (number : ℕ) → left ≡ [] → IsReady trace_ → trace_.done ≤ 262144
     → IsPlay machine trace_ (powerless c cpu) events left number → IsTraceOf c cpu events trace_
 traced-end machine trace_ c cpu events left number none ready short play =
@@ -546,7 +540,7 @@ traced-end machine trace_ c cpu events left number none ready short play =
     }
 
 -- what was traced of an event is more than before
-pub former-within : (om nm : Parts (Tracer MemBoard)) (mid : MachineView) (e : Effect) (ot : Trace)
+pub former-within : (om nm : Parts (Recorder MemBoard)) (mid : MachineView) (e : Effect) (ot : Trace)
     → IsFollowed om ot mid → ot.done ≤ 262144 → IsDoneBy om nm mid e
     → length om.board.steps.items ≤ length nm.board.steps.items
 unfolding first_steps
@@ -558,16 +552,18 @@ former-within om nm mid e ot followed short done =
     let sum = length-append h e.steps in omega (arith, few, short, long, size, sum)
 
 -- what was traced of an event lies in the flash
-pub fresh-in : (om nm : Parts (Tracer MemBoard)) (mid : MachineView) (e : Effect) (n k : ℕ) (read : List Step)
+pub fresh-in : (om nm : Parts (Recorder MemBoard)) (mid : MachineView) (e : Effect) (n k : ℕ) (read : List Step)
     → IsDoneBy om nm mid e → read ≡ nm.board.steps.items → n ≡ length mid.content.flash
     → All (IsStepIn n) (take (length read - k) (drop k read))
 unfolding first_steps
 fresh-in om nm mid e n k read done read_is long =
     let P : Step → Type 0 = IsStepIn n in
-    let same : length (after_all mid.content e.steps).flash ≡ n = length-after_all mid.content e.steps ∙ sym long in
+    let same : length (state_of nm.board.bench).content.flash ≡ n =
+    ap (λ (x : Content). length x.flash) (sym done.stands.content)
+    ∙ (length-after_all mid.content e.steps ∙ sym long) in
     let all : All P (om.board.steps.items ++ e.steps) =
     All-from_recursion P (om.board.steps.items ++ e.steps)
-    (subst (λ j. AllByRecursion (IsStepIn j) (om.board.steps.items ++ e.steps)) same done.inside) in
+    (subst (λ j. AllByRecursion (IsStepIn j) (om.board.steps.items ++ e.steps)) same done.record_.inside) in
     All-take P (length read - k) (drop k read) (All-drop P k read
     (subst (λ xs. All P xs) (sym (read_is ∙ done.kept)) (All-take P 262145 (om.board.steps.items ++ e.steps) all)))
 
@@ -580,15 +576,15 @@ if-ok (Ok a) P Q f h = f a h
 if-ok (Err e) P Q f h = tt
 
 -- an event that was followed
-pub follow-whole : (nm : Parts (Tracer MemBoard)) (nt : Trace) (m : MachineView) (all left : List EventView)
+pub follow-whole : (nm : Parts (Recorder MemBoard)) (nt : Trace) (m : MachineView) (all left : List EventView)
     (number : ℕ) (whole : Bool) → whole ≡ true → HasFollowed whole nm nt m all left number
     → IsPlay nm nt m all left number
 follow-whole nm nt m all left number whole held is = record { mid = is.mid; to = is.to; followed = is.goes held }
 
-pub follow-anew : (nm machine : Parts (Tracer MemBoard)) (nt : Trace) (m : MachineView) (all left : List EventView)
+pub follow-anew : (nm machine : Parts (Recorder MemBoard)) (nt : Trace) (m : MachineView) (all left : List EventView)
     (number : ℕ) (whole : Bool) (cpu : Cpu) → whole ≡ false → m.cpu ≡ cpu
-    → HasFollowed whole nm nt m all left number → Stands traced_state machine (powerless (state_of nt.board).content cpu)
-    → machine.board.steps.items ≡ [] → IsPlay machine nt m all left number
+    → HasFollowed whole nm nt m all left number → Stands recorded_state machine (powerless (state_of nt.board).content cpu)
+    → HasRecorded machine.board [] → IsPlay machine nt m all left number
 follow-anew nm machine nt m all left number whole cpu fell is has stands none =
     made-anew machine nt m has.mid all left number cpu is has.to (has.stops fell) stands none
 

@@ -1,4 +1,4 @@
--- What a tracer keeps, and what is done of steps where a cut is armed.
+-- What a recorder keeps, and what is done of steps where a cut is armed.
 use Rattle.std.proofs.Common.{◌≡◌, ℕ, zero, suc, ◌+◌, ◌-◌, ◌<◌, ◌≤◌, Bool, true, false, List, [], ◌∷◌, ◌++◌, length, replicate, take, drop, get_or, Option, Some, None, refl, sym, ap, ◌∙◌, subst, arith, inl, inr, append_assoc, append-nil, length-append}
 use Rattle.std.specs.Prelude.{◌==◌, ◌||◌, if◌then◌else◌, min, nat_lt, option_map}
 use Rattle.std.specs.List.{AllByRecursion}
@@ -14,58 +14,15 @@ use Rattle.pico_board.specs.MemBoard.{state_of}
 use Rattle.boot_session.proofs.PlanStepLemmas.{all-append}
 use Rattle.boot_tape.specs.declared.trace.Trace.{Trace}
 use Rattle.boot_tape.specs.declared.trace.ArmedCut.{ArmedCut}
-use Rattle.boot_tape.specs.declared.tracer.Tracer.{Tracer}
 use Rattle.boot_sweep.specs.declared.moves.Move.{Move}
 use Rattle.boot_tape.specs.Moving.{AreMovesIn, IsMoveIn, MoveView, Done, Torn, move_from, after_move, after_moves, done_count, moves_from, traced_by}
 use Rattle.boot_tape.specs.Playing.{CutMoves, HasCompleted, HasLost, IsLeftBy, cut_from, cut_moves, move_first, told_of}
 use Rattle.boot_tape.specs.Traces.{completed, traced_from}
-use Rattle.boot_tape.specs.Tracing.{HasTraced, first_steps, traced_more}
-
-take-more : {X : Type 0} (n : ℕ) (h : List X) (s : X)
-    → take n (h ++ s ∷ []) ≡ (if nat_lt (length (take n h)) n then take n h ++ s ∷ [] else take n h)
-take-more n h s = elim (cases_lt (length h) n) [
-  | inl lt ↦
-      let all : take n h ≡ h = take_all n h (omega (arith, lt)) in
-      let long = length-append h (s ∷ []) in
-      let more : take n (h ++ s ∷ []) ≡ h ++ s ∷ [] = take_all n (h ++ s ∷ []) (omega (arith, lt, long)) in
-      more
-      ∙ sym (ap (λ xs. if nat_lt (length xs) n then xs ++ s ∷ [] else xs) all
-      ∙ ap (λ b. if b then h ++ s ∷ [] else h) (lt-ltb (length h) n lt))
-  | inr ge ↦
-      let long : length (take n h) ≡ n = length-take-le n h ge in
-      take-append-le n h (s ∷ []) ge
-      ∙ sym (ap (λ b. if b then take n h ++ s ∷ [] else take n h)
-      (le-ltb (length (take n h)) n (omega (arith, long))))
-]
-
-pub first-more : (h : List Step) (s : Step) → first_steps (h ++ s ∷ []) ≡ traced_more (first_steps h) s
-unfolding first_steps
-first-more h s = take-more 262145 h s
+use Rattle.boot_session.specs.Recordings.{first_steps}
 
 pub first-all : (h : List Step) → length h ≤ 262145 → first_steps h ≡ h
 unfolding first_steps
 first-all h few = take_all 262145 h few
-
--- a step that the bench of a tracer did
-pub tracer-does : {B : Type 0} (state : B → State) (history : B → List Step → Type 0) (old new : Tracer B)
-    (step : Step) → Does state history old.bench step true new.bench
-    → IsStepIn (length (state old.bench).content.flash) step
-    → new.steps.items ≡ traced_more old.steps.items step
-    → Does (λ (t : Tracer B). state t.bench) (HasTraced state) old step true new
-tracer-does state history old new step does inside more = record {
-  done = does.done;
-  torn = does.torn;
-  size = does.size;
-  power = does.power;
-  later = does.later;
-  rose = does.rose;
-  told = does.told;
-  recorded = λ h is. record {
-    kept = more ∙ (ap (λ xs. traced_more xs step) is.kept ∙ sym (first-more h step));
-    inside = subst (λ n. AllByRecursion (IsStepIn n) (h ++ step ∷ [])) (sym does.size)
-        (all-append (IsStepIn (length (state old.bench).content.flash)) h (step ∷ []) is.inside (inside, tt));
-  };
-}
 
 -- what follows, where all steps before it complete
 abbrev pub then_moves : CutMoves → (Option Cut → CutMoves) → CutMoves

@@ -2,7 +2,6 @@
 pub mod CutMoves
 pub mod Doers
 pub mod Traces
-pub mod Tracing
 pub mod Moving
 pub mod Playing
 pub mod Examples

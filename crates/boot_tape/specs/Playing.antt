@@ -23,10 +23,10 @@ use Rattle.boot_tape.specs.declared.notes.Behind.TheVariants as behinds
 use Rattle.boot_machine.specs.Standing.{Stands}
 use Rattle.boot_plays.specs.Plays.{played}
 use Rattle.boot_tape.specs.declared.trace.Trace.{Trace}
-use Rattle.boot_tape.specs.declared.tracer.Tracer.{Tracer}
+use Rattle.boot_session.specs.declared.recorder.Recorder.{Recorder}
+use Rattle.boot_session.specs.Recordings.{IsRecordOf, first_steps}
 use Rattle.boot_tape.specs.Traces.{behind, came_of, moves_in, noted, own_steps, step_numbers, trace, traced}
 pub use Rattle.boot_tape.specs.CutMoves.{CutMoves, cut_moves, move_first}
-use Rattle.boot_tape.specs.Tracing.{HasTraced, first_steps}
 use Rattle.pico_board.specs.Board.{State as BoardState}
 use Rattle.pico_board.specs.declared.Step.{Step}
 use Rattle.pico_board.specs.Cuts.{Cut, IsPattern, cut_by, cut_with}
@@ -140,19 +140,20 @@ pub record IsPlayedTo (trace : Trace) (m : MachineView) (all left : List EventVi
   pub counted : trace.done ≡ done_count (moves_from trace.moves.items)
   pub size : flash_long trace ≡ length m.content.flash
 
--- the board that a tracer stands round
-abbrev pub traced_state : Tracer MemBoard → BoardState
-traced_state tracer = state_of tracer.bench
+-- the board that a recorder stands round
+abbrev pub recorded_state : Recorder MemBoard → BoardState
+recorded_state recorder = state_of recorder.bench
 
--- the machine stands for mid but for the cut, and its tracer has kept no more steps than completed
-pub record IsFollowed (machine : Parts (Tracer MemBoard)) (trace : Trace) (mid : MachineView)
+-- the machine stands for mid but for the cut, and its recorder has kept all steps that its board did,
+-- no more than completed
+pub record IsFollowed (machine : Parts (Recorder MemBoard)) (trace : Trace) (mid : MachineView)
     : Type 0 where
-  pub stands : Stands traced_state machine (bare mid)
+  pub stands : Stands recorded_state machine (bare mid)
   pub few : length machine.board.steps.items ≤ trace.done
-  pub inside : AllByRecursion (IsStepIn (length mid.content.flash)) machine.board.steps.items
+  pub recorded : IsRecordOf state_of machine.board machine.board.steps.items
 
 -- a play on its way
-pub record IsPlay (machine : Parts (Tracer MemBoard)) (trace : Trace) (m : MachineView)
+pub record IsPlay (machine : Parts (Recorder MemBoard)) (trace : Trace) (m : MachineView)
     (all left : List EventView) (k : ℕ) : Type 0 where
   pub mid : MachineView
   pub to : IsPlayedTo trace m all left k mid
@@ -160,7 +161,7 @@ pub record IsPlay (machine : Parts (Tracer MemBoard)) (trace : Trace) (m : Machi
 
 -- an event was played, so the trace is that of one event more. The machine stands where all its
 -- steps completed, and otherwise is off; or too many steps completed.
-pub record HasFollowed (whole : Bool) (machine : Parts (Tracer MemBoard)) (trace : Trace)
+pub record HasFollowed (whole : Bool) (machine : Parts (Recorder MemBoard)) (trace : Trace)
     (m : MachineView) (all left : List EventView) (k : ℕ) : Type 0 where
   pub mid : MachineView
   pub to : IsPlayedTo trace m all left k mid
@@ -176,25 +177,25 @@ abbrev pub cut_in : EventView → Option Cut
 cut_in (EventView.Cut left within pattern) = Some (cut_with left within pattern)
 cut_in event = None
 
--- an event did its steps whole, from m on, and the tracer has traced them
-pub record IsStepped (old : Parts (Tracer MemBoard)) (m : MachineView) (e : Effect)
-    (new : Parts (Tracer MemBoard)) : Type 0 where
-  pub stands : Stands traced_state new (record {
+-- an event did its steps whole, from m on, and the recorder has recorded them
+pub record IsStepped (old : Parts (Recorder MemBoard)) (m : MachineView) (e : Effect)
+    (new : Parts (Recorder MemBoard)) : Type 0 where
+  pub stands : Stands recorded_state new (record {
     content = after_all m.content e.steps;
     armed = Some None;
     cpu = m.cpu;
     place = e.place;
   })
-  pub traced_ : Extends (HasTraced state_of) old.board e.steps new.board
+  pub recorded : Extends (IsRecordOf state_of) old.board e.steps new.board
 
 -- An event did its steps whole, from m on. What came of it is told, with how many of the steps that
--- it did itself the tracer has kept.
-pub record HasCome (old : Parts (Tracer MemBoard)) (m : MachineView) (event : EventView)
-    (came : Came) (new : Parts (Tracer MemBoard)) : Type 0 where
+-- it did itself the recorder has kept.
+pub record HasCome (old : Parts (Recorder MemBoard)) (m : MachineView) (event : EventView)
+    (came : Came) (new : Parts (Recorder MemBoard)) : Type 0 where
   pub did : IsStepped old m (effect m event) new
   pub outcome : came.outcome ≡ came_of m event
   pub behind_ : came.behind ≡ behind m event
-  pub own : (h : List Step) → HasTraced state_of old.board h
+  pub own : (h : List Step) → IsRecordOf state_of old.board h
       → came.own ≡ length (first_steps (h ++ own_steps m event)) - length (first_steps h)
 
 -- what makes the moves of an event that is not served, by what the machine is doing

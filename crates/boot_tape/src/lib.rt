@@ -11,12 +11,9 @@ pub mod laws;
 mod notes;
 mod playing;
 mod trace;
-mod tracer;
-mod tracing;
 
 pub use boot_sweep::Move;
 pub use copying::copy_of;
 pub use notes::{Behind, Doer, Note, doers_of};
 pub use playing::trace_on;
 pub use trace::Trace;
-pub use tracer::TRACE_LIMIT;

@@ -4,6 +4,7 @@ ghost use Rattle.std.specs.Prelude.{◌≡◌, ◌+◌, ◌≤◌, ◌<◌, ◌�
 ghost use Rattle.pico_board.specs.MemBoard.{state_of};
 ghost use Rattle.boot_script.specs.Events.{EventView, IsWritableEvent, event_from};
 ghost use Rattle.boot_script.specs.Scripts.{script_events};
+ghost use Rattle.boot_session.specs.Recordings.{HasRecorded};
 ghost use Rattle.boot_session.specs.Standing.{IsUnarmed};
 ghost use Rattle.boot_machine.specs.Machines.{MachineView};
 ghost use Rattle.boot_machine.specs.Moves.{armed_for};
@@ -11,15 +12,16 @@ ghost use Rattle.boot_machine.specs.Serving.{is_hosted};
 ghost use Rattle.boot_machine.specs.Standing.{Stands, is_bootsel};
 ghost use Rattle.boot_plays.specs.Plays.{powerless};
 ghost use Rattle.boot_tape.specs.Traces.{behind_asked};
-ghost use Rattle.boot_tape.specs.Playing.{HasCome, HasFollowed, IsLong, IsPlay, IsReady, IsStepped, IsTraceOf, IsTracedTooLong, asked_effect, behind_in, cut_from, cut_in, traced_state};
+ghost use Rattle.boot_tape.specs.Playing.{HasCome, HasFollowed, IsLong, IsPlay, IsReady, IsStepped, IsTraceOf, IsTracedTooLong, asked_effect, behind_in, cut_from, cut_in, recorded_state};
 
 use crate::copying::copy_of;
 use crate::notes::{Behind, Came};
 use crate::trace::{ArmedCut, Trace};
-use crate::tracer::{TRACE_LIMIT, Tracer};
+use arrayvec::ArrayVec;
 use boot_machine::laws::run::only_lost_power_says_so;
 use boot_machine::{Machine, Served, State};
 use boot_script::{Event, Script};
+use boot_session::{Recorder, STEP_LIMIT};
 use pico_board::{BootKind, Cpu, MemBoard};
 use ram_start::Ram;
 use sector_pool::SectorPool;
@@ -31,17 +33,17 @@ fn machine_of(
     alloc: Global,
     board: &MemBoard,
     cpu: Cpu,
-) -> Result<Machine<Tracer<MemBoard>>, AllocError>
+) -> Result<Machine<Recorder<MemBoard>>, AllocError>
     requires { IsTrue (state_of board.now).powered }
-    ensures stands { IfOk result (λ machine. Stands traced_state machine
+    ensures stands { IfOk result (λ machine. Stands recorded_state machine
         (powerless (state_of board.now).content cpu)) }
-    ensures none { IfOk result (λ machine. machine.board.steps.items ≡ []) }
+    ensures none { IfOk result (λ machine. HasRecorded machine.board []) }
 {
-    let tracer = Tracer::make(alloc, copy_of(alloc, board)?)?;
+    let recorder = Recorder::make(alloc, copy_of(alloc, board)?, ArrayVec::new())?;
     let pool = SectorPool::make(alloc, 2)?;
     let download = Download::make(alloc)?;
     let ram = Ram::make(alloc)?;
-    Ok(Machine::new(tracer, pool, download, ram, cpu))
+    Ok(Machine::new(recorder, pool, download, ram, cpu))
 }
 
 /// The cut that an event arms.
@@ -59,7 +61,7 @@ fn armed_by<'a>(event: &Event<'a>) -> Option<ArmedCut<'a>>
 }
 
 /// Whether an event is for a host, and the machine is in BOOTSEL.
-fn is_served(machine: &Machine<Tracer<MemBoard>>, event: &Event<'_>) -> bool
+fn is_served(machine: &Machine<Recorder<MemBoard>>, event: &Event<'_>) -> bool
     ensures { result ≡ (is_bootsel machine.now.state && is_hosted (event_from event.now)) }
 {
     match machine.state() {
@@ -103,8 +105,8 @@ fn behind_event(state: &State, event: &Event<'_>) -> Result<Behind, AllocError>
 }
 
 /// Makes the boot that a host's event asked for.
-fn boot(machine: &mut Machine<Tracer<MemBoard>>, asked: Option<BootKind>)
-    ensures { (m : MachineView) → Stands traced_state machine.old m → m.armed ≡ Some None
+fn boot(machine: &mut Machine<Recorder<MemBoard>>, asked: Option<BootKind>)
+    ensures { (m : MachineView) → Stands recorded_state machine.old m → m.armed ≡ Some None
         → IsStepped machine.old m (asked_effect m asked) machine.new }
 {
     only_lost_power_says_so();
@@ -117,10 +119,10 @@ fn boot(machine: &mut Machine<Tracer<MemBoard>>, asked: Option<BootKind>)
 }
 
 /// Serves a host's event in BOOTSEL, and makes the boot that it asks for.
-fn serve(machine: &mut Machine<Tracer<MemBoard>>, event: &Event<'_>) -> Came
+fn serve(machine: &mut Machine<Recorder<MemBoard>>, event: &Event<'_>) -> Came
     requires served { (is_bootsel machine.old.state && is_hosted (event_from event.now)) ≡ true }
     requires writable { IsWritableEvent (event_from event.now) }
-    ensures { (m : MachineView) → Stands traced_state machine.old m
+    ensures { (m : MachineView) → Stands recorded_state machine.old m
         → armed_for m.armed (event_from event.now) ≡ Some None
         → HasCome machine.old m (event_from event.now) result machine.new }
 {
@@ -139,10 +141,10 @@ fn serve(machine: &mut Machine<Tracer<MemBoard>>, event: &Event<'_>) -> Came
 }
 
 /// What an event does that BOOTSEL does not serve.
-fn pass(machine: &mut Machine<Tracer<MemBoard>>, event: &Event<'_>) -> Result<Came, AllocError>
+fn pass(machine: &mut Machine<Recorder<MemBoard>>, event: &Event<'_>) -> Result<Came, AllocError>
     requires other { (is_bootsel machine.old.state && is_hosted (event_from event.now)) ≡ false }
     requires writable { IsWritableEvent (event_from event.now) }
-    ensures { IfOk result (λ came. (m : MachineView) → Stands traced_state machine.old m
+    ensures { IfOk result (λ came. (m : MachineView) → Stands recorded_state machine.old m
         → armed_for m.armed (event_from event.now) ≡ Some None
         → HasCome machine.old m (event_from event.now) came machine.new) }
 {
@@ -157,9 +159,9 @@ fn pass(machine: &mut Machine<Tracer<MemBoard>>, event: &Event<'_>) -> Result<Ca
 }
 
 /// What an event does to a machine on whose board no cut is armed.
-fn step(machine: &mut Machine<Tracer<MemBoard>>, event: &Event<'_>) -> Result<Came, AllocError>
+fn step(machine: &mut Machine<Recorder<MemBoard>>, event: &Event<'_>) -> Result<Came, AllocError>
     requires { IsWritableEvent (event_from event.now) }
-    ensures { IfOk result (λ came. (m : MachineView) → Stands traced_state machine.old m
+    ensures { IfOk result (λ came. (m : MachineView) → Stands recorded_state machine.old m
         → armed_for m.armed (event_from event.now) ≡ Some None
         → HasCome machine.old m (event_from event.now) came machine.new) }
 {
@@ -172,7 +174,7 @@ fn step(machine: &mut Machine<Tracer<MemBoard>>, event: &Event<'_>) -> Result<Ca
 
 /// Plays an event that arms no cut, of this number, and answers whether all its steps complete.
 fn play<'a>(
-    machine: &mut Machine<Tracer<MemBoard>>,
+    machine: &mut Machine<Recorder<MemBoard>>,
     trace: &mut Trace<'a>,
     event: &Event<'a>,
     number: u32,
@@ -203,7 +205,7 @@ fn play<'a>(
 /// anew.
 fn follow<'a>(
     alloc: Global,
-    machine: &mut Machine<Tracer<MemBoard>>,
+    machine: &mut Machine<Recorder<MemBoard>>,
     trace: &mut Trace<'a>,
     cpu: Cpu,
     event: &Event<'a>,
@@ -248,7 +250,7 @@ pub fn trace_on<'a>(
     let mut number = 0;
     for event in script.events() {
         follow(alloc, &mut machine, &mut trace, cpu, &event, number)?;
-        if trace.done > TRACE_LIMIT {
+        if trace.done > STEP_LIMIT {
             return Ok(None);
         }
         number += 1;

@@ -9,7 +9,7 @@ use Rattle.pico_board.specs.Content.{Content}
 use Rattle.boot_script.specs.Events.{EventView}
 use Rattle.boot_tape.specs.Traces.{trace}
 use Rattle.boot_session.specs.declared.recorder.Recorder.{Recorder}
-use Rattle.boot_session.specs.Recordings.{IsRecorderOf, kept_steps, step_limit}
+use Rattle.boot_session.specs.Recordings.{IsRecorderOf, first_steps, step_limit}
 use Rattle.boot_session.specs.Sessions.{session}
 use Rattle.check_laws.specs.declared.found.SessionFound.{SessionFound}
 use Rattle.check_laws.specs.declared.found.SessionFound.TheVariants as found
@@ -20,14 +20,14 @@ use Rattle.check_laws.specs.SessionLaws.{IsSessionLaw, IsStepsLaw, IsWritten}
 use Rattle.check_laws.proofs.HostLemmas.{hosts-is, is-hosts}
 use Rattle.check_laws.proofs.ShortLemmas.{steps-short}
 
-kept-all : (steps : List Step) → length steps ≤ step_limit → kept_steps steps ≡ steps
-unfolding kept_steps
-kept-all steps few = take_all step_limit steps few
+first-all : (steps : List Step) → length steps ≤ step_limit → first_steps steps ≡ steps
+unfolding first_steps step_limit
+first-all steps few = take_all 262145 steps (omega (arith, few))
 
 -- a recorder knows all of few steps
 pub all-kept : (r : Recorder MemBoard) (c : Content) (cpu : Cpu) (steps : List Step) → IsRecorderOf r c cpu steps
     → length steps ≤ step_limit → r.steps.items ≡ steps
-all-kept r c cpu steps is few = is.recorded.kept ∙ kept-all steps few
+all-kept r c cpu steps is few = is.recorded.kept ∙ first-all steps few
 
 module _ (c : Content) (cpu : Cpu) (events : List EventView) (c1 : Content) (first : c1 ≡ first_content c cpu)
     (hosts : Bool) (told : hosts ≡ is_hosted_on c1 cpu (hosted_events events)) where

@@ -11,7 +11,7 @@ ghost use Rattle.worked_flashes.specs.Choices.{former_start, small_finished, sma
 ghost use Rattle.worked_flashes.specs.Writes.{longer_steps, mapped_steps, plain_steps, slot};
 ghost use Rattle.boot_session.specs.Examples.{update_block};
 ghost use Rattle.boot_session.specs.CutSessions.{CutSession, StartsFinished};
-ghost use Rattle.boot_session.specs.Recordings.{kept_steps, step_limit};
+ghost use Rattle.boot_session.specs.Recordings.{first_steps, kept_steps, step_limit};
 ghost use Rattle.boot_session.specs.Sessions.{IsSlotOf, session};
 ghost use Rattle.image_check.specs.SameImage.{SameImage};
 ghost use Rattle.script_plan.specs.Plans.{plan_events};
@@ -112,8 +112,9 @@ pub fn slots_of_contents()
         (window_at 0 0x6000) → ⊥ }
 {}
 
-/// A session is kept whole up to 262,144 steps, the most that are swept.
+/// A session is swept up to 262,144 steps, and one step more is kept.
 pub fn the_most_steps()
     ensures limit { step_limit ≡ 262144 }
     ensures whole { (steps : List Step) → length steps ≤ 262144 → kept_steps steps ≡ steps }
+    ensures kept { (steps : List Step) → length steps ≤ 262145 → first_steps steps ≡ steps }
 {}

@@ -4,7 +4,7 @@ use Rattle.boot_rules.specs.Tables.{table_in}
 use Rattle.pico_board.specs.MemBoard.{state_of}
 use Rattle.boot_sweep.specs.Refusals.{starts_in_slot, ungated}
 use Rattle.boot_session.specs.Recordings.{step_limit}
-use Rattle.boot_sweep.proofs.ReasonLemmas.{few-is, gains-none, gains-some, kept-few, many-is, none-by, reason-by}
+use Rattle.boot_sweep.proofs.ReasonLemmas.{few-is, gains-none, gains-some, kept-by, kept-few, many-is, none-by, reason-by}
 use Rattle.boot_sweep.proofs.script.sweep_refusal.Goals as goal
 use Rattle.boot_sweep.proofs.script.sweep_refusal.Goals.{else-is_none-via-then-is_none+else-is_some, else-is_none-via-else-is_none}
 
@@ -15,28 +15,26 @@ returns-in-Some g c = λ steps is.
 
 pub ungated-requires : goal.ungated-requires
 ungated-requires g c = record {
-  few = subst (λ xs. length xs ≤ step_limit) (sym c.deref.ensures.value)
-      (kept-few c.args.recorder.now (g.B.Board.state c.args.board.now).content c.args.cpu c.requires.recorded.0
-      c.requires.recorded.1);
+  few = subst (λ xs. length xs ≤ step_limit) (sym c.kept_steps.ensures) (kept-few c.deref.result.now);
 }
 
 pub returns-in-Some-ungated : goal.returns-in-Some-ungated
 returns-in-Some-ungated g c = λ steps is.
-    let first = ap (ungated c.args.recorder.now.slot) (sym c.deref.ensures.value)
+    let first = ap (ungated c.args.recorder.now.slot) (sym (kept-by _ _ _ c.deref.ensures.value c.kept_steps.ensures))
     ∙ (sym c.ungated.ensures ∙ c.in-Some-ungated.is) in
     reason-by c.args.recorder.now (g.B.Board.state c.args.board.now).content c.args.cpu steps None
     (Some c.in-Some-ungated.k) _ _ _ is c.in_default.is first refl refl refl
 
 pub returns-then-recorder : goal.returns-then-recorder
 returns-then-recorder g c = λ steps is.
-    let first = ap (ungated c.args.recorder.now.slot) (sym c.deref.ensures.value)
+    let first = ap (ungated c.args.recorder.now.slot) (sym (kept-by _ _ _ c.deref.ensures.value c.kept_steps.ensures))
     ∙ (sym c.ungated.ensures ∙ c.in_default-ungated.is) in
     reason-by c.args.recorder.now (g.B.Board.state c.args.board.now).content c.args.cpu steps None None true _ _ is
     c.in_default.is first (many-is c.args.recorder.now.count (omega (arith, c.if-recorder.true))) refl refl
 
 pub returns-then-starts_in_slot : goal.returns-then-starts_in_slot
 returns-then-starts_in_slot g c = λ steps is.
-    let first = ap (ungated c.args.recorder.now.slot) (sym c.deref.ensures.value)
+    let first = ap (ungated c.args.recorder.now.slot) (sym (kept-by _ _ _ c.deref.ensures.value c.kept_steps.ensures))
     ∙ (sym c.ungated.ensures ∙ c.in_default-ungated.is) in
     let starts = ap (starts_in_slot c.args.recorder.now.slot) (sym c.requires.former)
     ∙ (sym c.starts_in_slot.ensures ∙ c.if-starts_in_slot.true) in
@@ -45,7 +43,7 @@ returns-then-starts_in_slot g c = λ steps is.
 
 pub returns-then-is_some : goal.returns-then-is_some
 returns-then-is_some g c = λ steps is.
-    let first = ap (ungated c.args.recorder.now.slot) (sym c.deref.ensures.value)
+    let first = ap (ungated c.args.recorder.now.slot) (sym (kept-by _ _ _ c.deref.ensures.value c.kept_steps.ensures))
     ∙ (sym c.ungated.ensures ∙ c.in_default-ungated.is) in
     let starts = ap (starts_in_slot c.args.recorder.now.slot) (sym c.requires.former)
     ∙ (sym c.starts_in_slot.ensures ∙ c.if-starts_in_slot.false) in
@@ -61,7 +59,7 @@ returns-then-is_some g c = λ steps is.
 
 pub returns : goal.returns
 returns g c = λ steps is.
-    let first = ap (ungated c.args.recorder.now.slot) (sym c.deref.ensures.value)
+    let first = ap (ungated c.args.recorder.now.slot) (sym (kept-by _ _ _ c.deref.ensures.value c.kept_steps.ensures))
     ∙ (sym c.ungated.ensures ∙ c.in_default-ungated.is) in
     let starts = ap (starts_in_slot c.args.recorder.now.slot) (sym c.requires.former)
     ∙ (sym c.starts_in_slot.ensures ∙ c.if-starts_in_slot.false) in

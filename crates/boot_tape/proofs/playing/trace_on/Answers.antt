@@ -43,20 +43,20 @@ loop-event-preserved c =
     let few = c.loop-event.invariant.few in record {
       few = omega (arith, few, size);
       ready = c.in_ok-follow.ensures.ready;
-      short = c.if-trace-gt-TRACE_LIMIT.false;
+      short = c.if-trace-gt-STEP_LIMIT.false;
       play = (c.in_ok-follow.ensures.played m events c.next.new.self refl
           (subst (λ es. IsPlay c.loop-event.machine c.loop-event.trace m events es c.loop-event.number) c.in-Some.ensures.steps.0
-          c.loop-event.invariant.play)).1 c.if-trace-gt-TRACE_LIMIT.false;
+          c.loop-event.invariant.play)).1 c.if-trace-gt-STEP_LIMIT.false;
     }
 
-pub returns-then-trace-gt-TRACE_LIMIT : goal.returns-then-trace-gt-TRACE_LIMIT
-returns-then-trace-gt-TRACE_LIMIT c =
+pub returns-then-trace-gt-STEP_LIMIT : goal.returns-then-trace-gt-STEP_LIMIT
+returns-then-trace-gt-STEP_LIMIT c =
     let content = (state_of c.args.board).content in
     let events = script_events c.args.script.now.bytes.now in
     let m = powerless content c.args.cpu in
     (c.in_ok-follow.ensures.played m events c.next.new.self refl
     (subst (λ es. IsPlay c.loop-event.machine c.loop-event.trace m events es c.loop-event.number) c.in-Some.ensures.steps.0
-    c.loop-event.invariant.play)).0 c.if-trace-gt-TRACE_LIMIT.true
+    c.loop-event.invariant.play)).0 c.if-trace-gt-STEP_LIMIT.true
 
 pub returns : goal.returns
 returns c =

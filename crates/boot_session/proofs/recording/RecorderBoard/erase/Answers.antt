@@ -1,12 +1,12 @@
 use Rattle.std.proofs.Common.{true, subst, sym}
 use Rattle.pico_board.specs.Board.{Does}
 use Rattle.pico_board.specs.declared.step.Step.TheVariants.{Erase}
-use Rattle.boot_tape.proofs.TraceLemmas.{tracer-does}
-use Rattle.boot_tape.proofs.tracing.TracerBoard.erase.Goals as goal
+use Rattle.boot_session.proofs.MarkLemmas.{recorder-does}
+use Rattle.boot_session.proofs.recording.RecorderBoard.erase.Goals as goal
 
 pub returns : goal.returns
 returns g c =
-    tracer-does g.B.Board.state g.B.Board.history c.args.self.now c.note.new.self (Erase c.args.sector)
+    recorder-does g.B.Board.state g.B.Board.history c.args.self.now c.note.new.self (Erase c.args.sector)
     (subst (λ b. Does g.B.Board.state g.B.Board.history c.args.self.now.bench (Erase c.args.sector) true b)
     (sym c.note.ensures.bench) c.in_ok-erase.ensures)
-    c.requires.range c.note.ensures.kept
+    c.requires.range c.note.ensures.units c.note.ensures.recorded
