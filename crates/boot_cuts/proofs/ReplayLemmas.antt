@@ -14,8 +14,8 @@ use Rattle.text_lines.specs.declared.outcome.EventOutcome.TheVariants as event_o
 use Rattle.boot_machine.specs.Machines.{MachineView, Off}
 use Rattle.boot_machine.specs.Moves.{armed_for, effect, reset}
 use Rattle.text_lines.specs.Texts.{decision_text}
-use Rattle.boot_plays.specs.Plays.{Moved, Played, moved_as, moved_machine, played, powerless, told_cut}
-use Rattle.boot_plays.proofs.PlayLemmas.{moved-as, moved-told}
+use Rattle.boot_machine.specs.Plays.{Moved, Played, moved_as, moved_machine, played, powerless, told_cut}
+use Rattle.boot_machine.proofs.PlayLemmas.{moved-as, moved-told}
 use Rattle.boot_cuts.specs.Contents.{cut_content, cut_contents}
 use Rattle.boot_tape.specs.Moving.{Done, Torn, after_moves}
 use Rattle.boot_tape.specs.Playing.{CutMoves, cut_in, cut_moves, move_first}

@@ -4,7 +4,7 @@
 //! `specs/Traces` says which steps those are and what is noted of each event, `specs/Doers` who does
 //! each step, `specs/Contents` what a cut leaves, `specs/Classes` what class it has, `specs/Tears`
 //! which windows the script leaves torn, and `specs/Runs` how cuts are told together. What the events
-//! of a script do stands in `boot_machine` and `boot_plays`, what the loss of power leaves in
+//! of a script do stands in `boot_machine`, what the loss of power leaves in
 //! `pico_board`, and the decision in `boot_rules`.
 #![tactic(auto)]
 

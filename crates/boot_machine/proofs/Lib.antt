@@ -23,3 +23,5 @@ mod ShownImageLemmas
 mod OutcomeLemmas
 mod TrialRunLemmas
 mod WatchedLemmas
+pub mod PlayLemmas
+pub mod TornLemmas

@@ -8,3 +8,4 @@ pub mod Examples
 pub mod Runs
 pub mod Ranges
 pub mod Remembering
+pub mod Plays

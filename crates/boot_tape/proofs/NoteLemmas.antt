@@ -17,7 +17,7 @@ use Rattle.boot_machine.specs.Boots.{booted}
 use Rattle.boot_machine.specs.Machines.{MachineView, StateView, Off, InBootsel, Running}
 use Rattle.boot_machine.specs.Moves.{armed_for, effect, effect_in, off_effect, reset, running_effect, stays_with}
 use Rattle.boot_machine.specs.Serving.{ServedEvent, followed_by, is_hosted, served_event}
-use Rattle.boot_plays.specs.Plays.{moved_machine, told_cut}
+use Rattle.boot_machine.specs.Plays.{moved_machine, told_cut}
 use Rattle.boot_tape.specs.declared.notes.Came.{Came}
 use Rattle.boot_tape.specs.declared.notes.Doer.{Doer}
 use Rattle.boot_tape.specs.declared.notes.Doer.TheVariants.{Boot, Buy, Host}

@@ -22,8 +22,8 @@ use Rattle.text_lines.specs.declared.outcome.EventOutcome.TheVariants as event_o
 use Rattle.boot_machine.specs.Machines.{MachineView, Off}
 use Rattle.boot_machine.specs.Moves.{IsLost, Moves, MovesBy, armed_for, effect}
 use Rattle.boot_machine.specs.Standing.{IsStep, Stands, StandsAt}
-use Rattle.boot_plays.specs.Plays.{Moved, moved_as, moved_machine, played, powerless, told_cut}
-use Rattle.boot_plays.proofs.PlayLemmas.{moved-as}
+use Rattle.boot_machine.specs.Plays.{Moved, moved_as, moved_machine, played, powerless, told_cut}
+use Rattle.boot_machine.proofs.PlayLemmas.{moved-as}
 use Rattle.boot_tape.specs.declared.notes.Came.{Came}
 use Rattle.boot_tape.specs.declared.notes.Behind.TheVariants.{Nothing}
 use Rattle.boot_tape.specs.declared.trace.ArmedCut.{ArmedCut}

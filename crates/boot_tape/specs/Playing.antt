@@ -21,7 +21,7 @@ use Rattle.boot_machine.specs.declared.state.State.TheVariants as states
 use Rattle.boot_tape.specs.declared.notes.Behind.{Behind}
 use Rattle.boot_tape.specs.declared.notes.Behind.TheVariants as behinds
 use Rattle.boot_machine.specs.Standing.{Stands}
-use Rattle.boot_plays.specs.Plays.{played}
+use Rattle.boot_machine.specs.Plays.{played}
 use Rattle.boot_tape.specs.declared.trace.Trace.{Trace}
 use Rattle.boot_session.specs.declared.recorder.Recorder.{Recorder}
 use Rattle.boot_session.specs.Recordings.{IsRecordOf, first_steps}

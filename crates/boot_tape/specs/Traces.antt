@@ -16,7 +16,7 @@ use Rattle.boot_machine.specs.Boots.{Effect}
 use Rattle.boot_machine.specs.Machines.{MachineView, Program, StateView, Off, InBootsel, Running, FromFlash, FromRam}
 use Rattle.boot_machine.specs.Moves.{armed_for, buy_effect, effect}
 use Rattle.boot_machine.specs.Serving.{ServedEvent, is_hosted, served_event}
-use Rattle.boot_plays.specs.Plays.{moved_machine, played, powerless, told_cut}
+use Rattle.boot_machine.specs.Plays.{moved_machine, played, powerless, told_cut}
 use Rattle.boot_sweep.specs.Moving.{MoveView}
 use Rattle.boot_tape.specs.declared.notes.Note.{Note}
 use Rattle.boot_tape.specs.CutMoves.{cut_moves}

@@ -1,7 +1,7 @@
 //! The play of a script, told step by step: what it does to a board, and what comes of each event.
 //!
 //! `specs/Traces` says which steps a script completes and what is noted of each event, `specs/Doers`
-//! who does each step. What the events of a script do stands in `boot_machine` and `boot_plays`,
+//! who does each step. What the events of a script do stands in `boot_machine`,
 //! and what the loss of power leaves in `pico_board`.
 #![tactic(auto)]
 

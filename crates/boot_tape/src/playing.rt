@@ -10,7 +10,7 @@ ghost use Rattle.boot_machine.specs.Machines.{MachineView};
 ghost use Rattle.boot_machine.specs.Moves.{armed_for};
 ghost use Rattle.boot_machine.specs.Serving.{is_hosted};
 ghost use Rattle.boot_machine.specs.Standing.{Stands, is_bootsel};
-ghost use Rattle.boot_plays.specs.Plays.{powerless};
+ghost use Rattle.boot_machine.specs.Plays.{powerless};
 ghost use Rattle.boot_tape.specs.Traces.{behind_asked};
 ghost use Rattle.boot_tape.specs.Playing.{HasCome, HasFollowed, IsLong, IsPlay, IsReady, IsStepped, IsTraceOf, IsTracedTooLong, asked_effect, behind_in, cut_from, cut_in, recorded_state};
 

@@ -13,7 +13,7 @@ use Rattle.boot_script.specs.Events.{EventView}
 use Rattle.boot_machine.specs.Machines.{MachineView, Program, StateView, Off, InBootsel, Running, FromFlash, FromRam}
 use Rattle.boot_machine.specs.Moves.{armed_for, effect}
 use Rattle.boot_machine.specs.Serving.{is_hosted}
-use Rattle.boot_plays.specs.Plays.{moved_machine, powerless, told_cut}
+use Rattle.boot_machine.specs.Plays.{moved_machine, powerless, told_cut}
 use Rattle.boot_tape.specs.declared.notes.Behind.{Behind}
 use Rattle.boot_tape.specs.declared.notes.Behind.TheVariants as behinds
 use Rattle.boot_tape.specs.declared.notes.Note.{Note}

@@ -16,8 +16,8 @@ use Rattle.boot_machine.specs.Boots.{Effect, booted, decided_place, entered}
 use Rattle.boot_machine.specs.Machines.{Host, MachineView, StateView, Off, InBootsel, Running}
 use Rattle.boot_machine.specs.Moves.{armed_for, effect, reset}
 use Rattle.boot_machine.specs.Serving.{ServedEvent, followed, followed_by, is_hosted, served_event}
-use Rattle.boot_plays.specs.Plays.{Moved, moved_as, moved_machine, powerless, told_cut}
-use Rattle.boot_plays.proofs.PlayLemmas.{moved-as}
+use Rattle.boot_machine.specs.Plays.{Moved, moved_as, moved_machine, powerless, told_cut}
+use Rattle.boot_machine.proofs.PlayLemmas.{moved-as}
 use Rattle.boot_session.specs.Sessions.{going_on, session_from}
 use Rattle.boot_tape.specs.Traces.{completed, event_steps, trace, traced, traced_from}
 use Rattle.check_laws.proofs.HostLemmas.{own-apart}

@@ -23,7 +23,7 @@ use Rattle.image_check.proofs.LawLemmas.{at-valid, valid-at}
 use Rattle.boot_firm.specs.Firmness.{has_no_other}
 use Rattle.boot_firm.proofs.FirmnessLemmas.{alone-is, is-alone}
 use Rattle.boot_script.specs.Events.{EventView}
-use Rattle.boot_plays.specs.Plays.{powerless}
+use Rattle.boot_machine.specs.Plays.{powerless}
 use Rattle.boot_session.specs.Slots.{session_slot}
 use Rattle.boot_sweep.specs.Firms.{HasNoOtherBlock}
 use Rattle.boot_tape.specs.Traces.{moves_in, noted}

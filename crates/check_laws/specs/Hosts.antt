@@ -12,7 +12,7 @@ use Rattle.text_lines.specs.declared.outcome.EventOutcome.TheVariants as event_o
 use Rattle.boot_machine.specs.Boots.{booted, entered}
 use Rattle.boot_machine.specs.Machines.{MachineView, StateView, Off, InBootsel, Running}
 use Rattle.boot_machine.specs.Serving.{ServedEvent, is_hosted, served_event}
-use Rattle.boot_plays.specs.Plays.{moved_machine, powerless}
+use Rattle.boot_machine.specs.Plays.{moved_machine, powerless}
 use Rattle.boot_tape.specs.Moving.{does_step}
 use Rattle.boot_tape.specs.Traces.{own_moves}
 

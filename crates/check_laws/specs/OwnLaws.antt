@@ -18,7 +18,7 @@ use Rattle.boot_rules.specs.Chosen.{Chosen}
 use Rattle.boot_rules.specs.Tables.{table_in}
 use Rattle.boot_script.specs.Events.{EventView}
 use Rattle.boot_machine.specs.Machines.{MachineView, StateView, Running, FromFlash}
-use Rattle.boot_plays.specs.Plays.{moved_machine, powerless}
+use Rattle.boot_machine.specs.Plays.{moved_machine, powerless}
 use Rattle.boot_tape.specs.declared.notes.Behind.{Behind}
 use Rattle.boot_tape.specs.declared.notes.Behind.TheVariants as behinds
 use Rattle.boot_tape.specs.Moving.{after_moves, done_steps}

@@ -12,7 +12,7 @@ use Rattle.image_def.specs.declared.started.Started.{Started}
 use Rattle.image_check.specs.declared.why.Why.{Why}
 use Rattle.image_check.specs.Image.{image_at}
 use Rattle.boot_script.specs.Events.{EventView}
-use Rattle.boot_plays.specs.Plays.{powerless}
+use Rattle.boot_machine.specs.Plays.{powerless}
 use Rattle.boot_session.specs.Slots.{session_slot}
 use Rattle.boot_firm.specs.Firmness.{has_no_other}
 use Rattle.boot_tape.specs.Traces.{moves_in, noted}

@@ -6,7 +6,7 @@ use Rattle.pico_board.specs.declared.boot.Cpu.{Cpu}
 use Rattle.pico_board.specs.Content.{Content}
 use Rattle.boot_script.specs.Events.{EventView}
 use Rattle.boot_tape.specs.Traces.{trace, trace_steps}
-use Rattle.boot_plays.specs.Plays.{powerless}
+use Rattle.boot_machine.specs.Plays.{powerless}
 use Rattle.check_records.specs.declared.found.Again.{Again}
 use Rattle.check_records.specs.Again.{AreCutFacts, IsAgain, IsUnerasedTrace, LeavesOtherTable, MayGoElsewhere, again_by}
 use Rattle.check_records.specs.Shares.{shares}

@@ -33,7 +33,7 @@ use Rattle.boot_machine.specs.Machines.{Host, MachineView, Placing, StateView, O
 use Rattle.boot_machine.specs.Moves.{effect, effect_in}
 use Rattle.boot_machine.specs.Serving.{ServedEvent, block_outcome, block_served, blocks_of, carried_on, done_boot, is_like, only_told, ruled_on, ruling_on, table_of_found, taken_in, uf2_served, with_placing}
 use Rattle.boot_machine.specs.Standing.{placing_at}
-use Rattle.boot_plays.specs.Plays.{Moved, moved_machine, told_cut}
+use Rattle.boot_machine.specs.Plays.{Moved, moved_machine, told_cut}
 use Rattle.check_records.specs.declared.downloads.Beginning.{Beginning}
 use Rattle.check_records.specs.declared.downloads.Kind.{Kind}
 use Rattle.check_records.specs.declared.downloads.Stage.{Stage}

@@ -6,7 +6,7 @@ use Rattle.pico_board.specs.declared.boot.Cpu.{Cpu}
 use Rattle.pico_board.specs.Content.{Content}
 use Rattle.boot_script.specs.Events.{EventView}
 use Rattle.boot_machine.specs.Machines.{MachineView}
-use Rattle.boot_plays.specs.Plays.{moved_machine, powerless}
+use Rattle.boot_machine.specs.Plays.{moved_machine, powerless}
 use Rattle.boot_sweep.specs.Moving.{MoveView}
 use Rattle.boot_sweep.specs.declared.moves.Move.{Move}
 use Rattle.boot_tape.specs.declared.notes.Note.{Note}

@@ -42,7 +42,7 @@ use Rattle.boot_machine.specs.Machines.{Host, MachineView, Placing, StateView, F
 use Rattle.boot_machine.specs.Moves.{armed_for, bought_choice, effect, stays_with}
 use Rattle.boot_machine.specs.Serving.{ServedEvent, block_served, blocks_of, carried_on, command_served, done_boot, followed_by, is_like, ram_outcome, ram_place, ruled_on, ruling_on, served_event, serves_host, serves_info, serves_ram, table_of_found, taken_in, uf2_served, with_placing}
 use Rattle.boot_machine.specs.Standing.{placing_at}
-use Rattle.boot_plays.specs.Plays.{moved_machine, powerless, told_cut}
+use Rattle.boot_machine.specs.Plays.{moved_machine, powerless, told_cut}
 use Rattle.boot_sweep.specs.Moving.{Done, MoveView, Torn}
 use Rattle.boot_tape.specs.CutMoves.{cut_moves, move_first}
 use Rattle.boot_tape.specs.Traces.{came_of, note_of, own_moves, own_steps, served_in}

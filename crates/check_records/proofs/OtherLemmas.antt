@@ -29,7 +29,7 @@ use Rattle.boot_machine.specs.Machines.{Host, MachineView, Program, StateView, O
 use Rattle.boot_machine.specs.Moves.{armed_for, bootsel_effect, bought_choice, buy_effect, effect, effect_in, off_effect, reset, running_effect, stays_with}
 use Rattle.trial_buy.specs.Buying.{buy_steps}
 use Rattle.boot_machine.specs.Serving.{ServedEvent, command_served, followed_by, ram_outcome, ram_place, serves, serves_host, serves_info, serves_ram, table_of_found}
-use Rattle.boot_plays.specs.Plays.{moved_machine, told_cut}
+use Rattle.boot_machine.specs.Plays.{moved_machine, told_cut}
 use Rattle.check_records.specs.Seeing.{is_other, is_over, leaves_host}
 use Rattle.check_records.specs.declared.downloads.Kind.{Kind}
 use Rattle.check_records.specs.Shares.{kind_at, other_share, share_at, share_of}

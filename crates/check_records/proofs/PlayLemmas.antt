@@ -9,7 +9,7 @@ use Rattle.text_lines.specs.declared.outcome.EventOutcome.{EventOutcome}
 use Rattle.boot_machine.specs.declared.parts.Parts.{Parts}
 use Rattle.boot_machine.specs.Machines.{MachineView}
 use Rattle.boot_machine.specs.Standing.{Stands}
-use Rattle.boot_plays.specs.Plays.{moved_machine, played}
+use Rattle.boot_machine.specs.Plays.{moved_machine, played}
 use Rattle.check_records.specs.declared.downloads.Beginning.{Beginning}
 use Rattle.check_records.specs.declared.downloads.Share.{Share}
 use Rattle.check_records.specs.declared.found.Records.{Records}

@@ -25,8 +25,8 @@ use Rattle.boot_machine.specs.Boots.{Effect, booted, decided_place, decided_step
 use Rattle.boot_machine.specs.Moves.{effect_in}
 use Rattle.boot_machine.specs.Serving.{ServedEvent, before_boot, followed_by}
 use Rattle.boot_machine.specs.Standing.{IsServed, Stands, StandsAt}
-use Rattle.boot_plays.specs.Plays.{Moved, moved_as, moved_machine, told_cut}
-use Rattle.boot_plays.proofs.PlayLemmas.{moved-as}
+use Rattle.boot_machine.specs.Plays.{Moved, moved_as, moved_machine, told_cut}
+use Rattle.boot_machine.proofs.PlayLemmas.{moved-as}
 use Rattle.check_records.specs.Seeing.{ComesTo, reset_behind, with_reset}
 use Rattle.check_records.specs.Shares.{moved_by}
 

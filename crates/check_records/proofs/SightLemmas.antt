@@ -17,8 +17,8 @@ use Rattle.boot_machine.specs.Machines.{Host, MachineView, StateView, Off, InBoo
 use Rattle.boot_machine.specs.Moves.{effect_in}
 use Rattle.boot_machine.specs.Serving.{ServedEvent, followed_by, served_event}
 use Rattle.boot_machine.specs.Standing.{IsHost, IsServed, IsStep, Serves, Stands, StandsAt, placing_at}
-use Rattle.boot_plays.specs.Plays.{Moved, moved_as, moved_machine, told_cut}
-use Rattle.boot_plays.proofs.PlayLemmas.{moves-only}
+use Rattle.boot_machine.specs.Plays.{Moved, moved_as, moved_machine, told_cut}
+use Rattle.boot_machine.proofs.PlayLemmas.{moves-only}
 use Rattle.check_records.specs.declared.downloads.Beginning.{Beginning}
 use Rattle.check_records.specs.declared.downloads.Kind.{Kind}
 use Rattle.check_records.specs.declared.downloads.Share.{Share}

@@ -10,7 +10,7 @@ use Rattle.cut_class.specs.declared.class.Class.TheVariants.{Former, Bootsel}
 use Rattle.boot_cuts.specs.Answers.{answers}
 use Rattle.boot_cuts.specs.Contents.{cut_contents}
 use Rattle.boot_tape.specs.Traces.{trace, trace_steps}
-use Rattle.boot_plays.specs.Plays.{powerless}
+use Rattle.boot_machine.specs.Plays.{powerless}
 use Rattle.check_records.specs.declared.found.Again.{Again}
 use Rattle.check_records.specs.declared.found.Again.TheVariants.{Yes, NoStep, NoTable, NoTarget}
 use Rattle.check_records.specs.Unerased.{IsFirstUnerased, IsUnerased}

@@ -19,7 +19,7 @@ use Rattle.text_lines.specs.declared.outcome.EventOutcome.{EventOutcome}
 use Rattle.text_lines.specs.declared.outcome.EventOutcome.TheVariants as events
 use Rattle.boot_script.specs.Events.{EventView}
 use Rattle.boot_machine.specs.Machines.{MachineView}
-use Rattle.boot_plays.specs.Plays.{moved_machine, powerless}
+use Rattle.boot_machine.specs.Plays.{moved_machine, powerless}
 use Rattle.boot_sweep.specs.Moving.{MoveView, moved_step}
 use Rattle.boot_tape.specs.declared.notes.Note.{Note}
 use Rattle.boot_tape.specs.Traces.{note_of, own_moves}

@@ -5,7 +5,7 @@ use Rattle.pico_board.specs.declared.boot.Cpu.{Cpu}
 use Rattle.pico_board.specs.Content.{Content}
 use Rattle.boot_script.specs.Events.{EventView}
 use Rattle.boot_machine.specs.Machines.{MachineView}
-use Rattle.boot_plays.specs.Plays.{played, powerless}
+use Rattle.boot_machine.specs.Plays.{played, powerless}
 use Rattle.check_records.specs.declared.found.Records.{Records}
 use Rattle.check_records.specs.Idle.{idle_from, refused_of}
 use Rattle.check_records.specs.Shares.{shares}

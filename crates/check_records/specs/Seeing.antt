@@ -12,7 +12,7 @@ use Rattle.boot_script.specs.Events.{EventView}
 use Rattle.boot_machine.specs.declared.parts.Parts.{Parts}
 use Rattle.boot_machine.specs.Machines.{MachineView, StateView, InBootsel}
 use Rattle.boot_machine.specs.Standing.{Stands, placing_at}
-use Rattle.boot_plays.specs.Plays.{Moved, moved_machine}
+use Rattle.boot_machine.specs.Plays.{Moved, moved_machine}
 use Rattle.check_records.specs.declared.downloads.Beginning.{Beginning}
 use Rattle.check_records.specs.declared.downloads.Share.{Share}
 use Rattle.check_records.specs.declared.downloads.Share.TheVariants.{Keeps, Drops}

@@ -15,7 +15,7 @@ use Rattle.boot_script.specs.Events.{EventView}
 use Rattle.boot_machine.specs.Machines.{Host, MachineView, Placing, StateView, InBootsel}
 use Rattle.boot_machine.specs.Serving.{ServedEvent, before_boot, served_event}
 use Rattle.boot_machine.specs.Standing.{placing_at}
-use Rattle.boot_plays.specs.Plays.{Moved, moved_as, moved_machine, told_cut}
+use Rattle.boot_machine.specs.Plays.{Moved, moved_as, moved_machine, told_cut}
 use Rattle.check_records.specs.declared.downloads.Kind.{Kind}
 use Rattle.check_records.specs.declared.downloads.Beginning.{Beginning}
 use Rattle.check_records.specs.declared.downloads.Stage.{Stage}

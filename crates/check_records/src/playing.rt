@@ -8,7 +8,7 @@ ghost use Rattle.boot_script.specs.Scripts.{script_events};
 ghost use Rattle.boot_machine.specs.Machines.{MachineView};
 ghost use Rattle.boot_machine.specs.Standing.{Stands};
 ghost use Rattle.boot_machine.specs.declared.state.State.TheVariants.{Bootsel as SERVING};
-ghost use Rattle.boot_plays.specs.Plays.{moved_machine, powerless};
+ghost use Rattle.boot_machine.specs.Plays.{moved_machine, powerless};
 ghost use Rattle.check_records.specs.Records.{records_of, records_on};
 ghost use Rattle.check_records.specs.Seeing.{ComesTo, HasSeen, Knows, block_in, is_other, is_over, leaves_host, other_seen, reset_behind};
 ghost use Rattle.check_records.specs.Shares.{block_share, continues, stage_of, stage_of_accepted, stage_of_block};

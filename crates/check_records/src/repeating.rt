@@ -6,7 +6,7 @@ ghost use Rattle.pico_board.specs.declared.boot.Cpu.{Cpu};
 ghost use Rattle.pico_board.specs.Content.{Content};
 ghost use Rattle.boot_script.specs.Events.{EventView};
 ghost use Rattle.boot_tape.specs.Traces.{trace, trace_steps};
-ghost use Rattle.boot_plays.specs.Plays.{powerless};
+ghost use Rattle.boot_machine.specs.Plays.{powerless};
 ghost use Rattle.check_records.specs.Again.{AreCutFacts, IsAgain, again_by};
 ghost use Rattle.check_records.specs.Shares.{shares};
 ghost use Rattle.check_records.specs.Unerased.{first_unerased};

@@ -9,7 +9,7 @@ use Rattle.pico_board.specs.MemBoard.{state_of}
 use Rattle.boot_rules.specs.declared.decision.Decision.{Decision}
 use Rattle.boot_rules.specs.Choosing.{decision_in}
 use Rattle.boot_script.specs.Events.{EventView}
-use Rattle.boot_plays.specs.Plays.{powerless}
+use Rattle.boot_machine.specs.Plays.{powerless}
 use Rattle.cut_class.specs.declared.class.Class.{Class}
 use Rattle.boot_cuts.specs.Answers.{end_answer}
 use Rattle.boot_sweep.specs.Moving.{MoveView}

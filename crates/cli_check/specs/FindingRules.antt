@@ -7,7 +7,7 @@ use Rattle.pico_board.specs.Content.{Content}
 use Rattle.boot_rules.specs.Chosen.{Chosen}
 use Rattle.boot_rules.specs.Tables.{table_in}
 use Rattle.boot_script.specs.Events.{EventView}
-use Rattle.boot_plays.specs.Plays.{powerless}
+use Rattle.boot_machine.specs.Plays.{powerless}
 use Rattle.cut_class.specs.declared.class.Class.{Class}
 use Rattle.cut_class.specs.declared.class.Class.TheVariants.{Former, Finished, Whole, Tail, Mixed, Bootsel}
 use Rattle.boot_cuts.specs.Classes.{Falls, IsClass}

@@ -13,7 +13,7 @@ use Rattle.text_lines.specs.Events.{outcome_text}
 use Rattle.boot_machine.specs.Machines.{MachineView}
 use Rattle.boot_machine.specs.Standing.{Stands}
 use Rattle.cli_scripts.specs.ReplayWorks.{event_line, event_lines}
-use Rattle.boot_plays.specs.Plays.{moved_machine, played}
+use Rattle.boot_machine.specs.Plays.{moved_machine, played}
 
 -- a machine that was played up to the events that are left, which are few; what plays these from here plays all
 pub record PlaysOn (parts : Parts MemBoard) (m : MachineView) (all left : List EventView) (number : ℕ) (text : List ℕ)

@@ -11,11 +11,11 @@ use Rattle.cli_inputs.specs.declared.forms.Form.TheVariants.{Script}
 use Rattle.cli_inputs.specs.Forms.{HasForm, content_of_files, filled_flash, filled_length}
 use Rattle.cli_inputs.specs.Rules.{IsByRules}
 use Rattle.cli_inputs.proofs.WorkLemmas.{same-outcome, never-refuses}
-use Rattle.boot_plays.specs.Plays.{Played, played, powerless}
+use Rattle.boot_machine.specs.Plays.{Played, played, powerless}
 use Rattle.cli_scripts.specs.ReplayWorks.{event_lines, end_line, content_files, replay_work}
 use Rattle.cli_scripts.specs.ReplayRules.{IsReplayOf}
-use Rattle.boot_plays.proofs.PlayLemmas.{plays-only}
-use Rattle.boot_plays.proofs.TornLemmas.{played-plays}
+use Rattle.boot_machine.proofs.PlayLemmas.{plays-only}
+use Rattle.boot_machine.proofs.TornLemmas.{played-plays}
 use Rattle.cli_scripts.proofs.TornLemmas.{script-bytes}
 
 -- a flash that is filled is of bytes

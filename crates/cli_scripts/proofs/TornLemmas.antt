@@ -9,7 +9,7 @@ use Rattle.boot_script.specs.Written.{written_event, cut_part_byte}
 use Rattle.boot_script.proofs.SpelledLemmas.{are-bytes}
 use Rattle.boot_script.proofs.FollowingLemmas.{script-spelled}
 use Rattle.cli_course.specs.Outcomes.{AreBytes}
-use Rattle.boot_plays.specs.Plays.{IsOfBytes}
+use Rattle.boot_machine.specs.Plays.{IsOfBytes}
 
 -- bytes behind others, and in front of others
 bytes-behind : (xs ys : List ℕ) → AreBytes (xs ++ ys) → AreBytes ys

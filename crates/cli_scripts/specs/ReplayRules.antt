@@ -9,7 +9,7 @@ use Rattle.boot_machine.specs.Machines.{MachineView}
 use Rattle.boot_machine.specs.Moves.{Plays}
 use Rattle.cli_course.specs.declared.status.Status.TheVariants.{Done}
 use Rattle.cli_course.specs.Outcomes.{AnswerView}
-use Rattle.boot_plays.specs.Plays.{powerless}
+use Rattle.boot_machine.specs.Plays.{powerless}
 use Rattle.cli_scripts.specs.ReplayWorks.{event_lines, end_line, content_files}
 
 -- `replay`: the events of the script up to its end take a machine without power, on which no cut

@@ -9,7 +9,7 @@ use Rattle.text_lines.specs.Events.{outcome_text}
 use Rattle.text_lines.specs.declared.outcome.EventOutcome.{EventOutcome}
 use Rattle.boot_machine.specs.Machines.{StateView, Off, InBootsel, Running}
 use Rattle.cli_course.specs.Outcomes.{Work, Answers, line}
-use Rattle.boot_plays.specs.Plays.{Played, played, powerless}
+use Rattle.boot_machine.specs.Plays.{Played, played, powerless}
 
 -- the line of an event, by its number
 abbrev pub event_line : ℕ → List ℕ → List ℕ

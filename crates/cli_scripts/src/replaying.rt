@@ -8,7 +8,7 @@ ghost use Rattle.boot_script.specs.Scripts.{script_events};
 ghost use Rattle.text_lines.specs.Events.{outcome_text};
 ghost use Rattle.boot_machine.specs.Machines.{MachineView as Model};
 ghost use Rattle.boot_machine.specs.Standing.{Stands};
-ghost use Rattle.boot_plays.specs.Plays.{moved_machine, played, powerless};
+ghost use Rattle.boot_machine.specs.Plays.{moved_machine, played, powerless};
 ghost use Rattle.cli_scripts.specs.ReplayWorks.{event_lines, replay_work};
 ghost use Rattle.cli_course.specs.Outcomes.{worked};
 ghost use Rattle.cli_course.specs.Views.{answer_from};

@@ -14,8 +14,8 @@ use Rattle.boot_rules.specs.Chosen.{Chosen}
 use Rattle.boot_script.specs.Events.{EventView}
 use Rattle.boot_machine.specs.Machines.{MachineView}
 use Rattle.boot_machine.specs.Moves.{armed_for, effect}
-use Rattle.boot_plays.specs.Plays.{Moved, moved_as, moved_machine, powerless, told_cut}
-use Rattle.boot_plays.proofs.PlayLemmas.{moved-as}
+use Rattle.boot_machine.specs.Plays.{Moved, moved_as, moved_machine, powerless, told_cut}
+use Rattle.boot_machine.proofs.PlayLemmas.{moved-as}
 use Rattle.boot_sweep.specs.Moving.{MoveView}
 use Rattle.boot_sweep.proofs.ResultLemmas.{start-holds}
 use Rattle.cut_class.specs.declared.class.Class.{Class}

@@ -20,8 +20,8 @@ use Rattle.boot_machine.specs.Boots.{decided_place, decided_steps, entered}
 use Rattle.boot_machine.specs.Machines.{Host, MachineView, Program, StateView, Off, InBootsel, Running}
 use Rattle.boot_machine.specs.Moves.{armed_for, effect, reset}
 use Rattle.boot_machine.specs.Serving.{followed, followed_by, is_hosted, served_event}
-use Rattle.boot_plays.specs.Plays.{Moved, moved_as, moved_machine, played, powerless, told_cut}
-use Rattle.boot_plays.proofs.PlayLemmas.{moved-as}
+use Rattle.boot_machine.specs.Plays.{Moved, moved_as, moved_machine, played, powerless, told_cut}
+use Rattle.boot_machine.proofs.PlayLemmas.{moved-as}
 use Rattle.boot_session.specs.Sessions.{going_on, session, session_from}
 use Rattle.boot_sweep.specs.Moving.{MoveView, Done}
 use Rattle.boot_tape.specs.CutMoves.{cut_moves}

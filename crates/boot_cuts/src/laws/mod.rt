@@ -15,7 +15,7 @@ ghost use Rattle.boot_sweep.specs.Moving.{MoveView};
 ghost use Rattle.boot_script.specs.Events.{EventView};
 ghost use Rattle.boot_machine.specs.Machines.{MachineView};
 ghost use Rattle.text_lines.specs.declared.outcome.EventOutcome.TheVariants as event_outcomes;
-ghost use Rattle.boot_plays.specs.Plays.{played, powerless, told_cut};
+ghost use Rattle.boot_machine.specs.Plays.{played, powerless, told_cut};
 ghost use Rattle.text_lines.specs.Texts.{decision_text};
 ghost use Rattle.boot_cuts.specs.declared.answers.Answer.{Answer};
 ghost use Rattle.cut_class.specs.declared.class.Class.{Class};

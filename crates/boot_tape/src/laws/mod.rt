@@ -8,7 +8,7 @@ ghost use Rattle.boot_script.specs.Events.{EventView};
 ghost use Rattle.boot_machine.specs.Boots.{booted};
 ghost use Rattle.boot_machine.specs.Machines.{MachineView};
 ghost use Rattle.boot_machine.specs.Moves.{armed_for, effect};
-ghost use Rattle.boot_plays.specs.Plays.{told_cut};
+ghost use Rattle.boot_machine.specs.Plays.{told_cut};
 ghost use Rattle.boot_tape.specs.declared.notes.Behind.TheVariants.{Boot, Buy, Nothing};
 ghost use Rattle.boot_tape.specs.CutMoves.{cut_moves};
 ghost use Rattle.boot_tape.specs.Doers.{doers, is_own_whole};

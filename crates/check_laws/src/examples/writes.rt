@@ -13,7 +13,7 @@ ghost use Rattle.image_def.specs.declared.started.Started.{Started};
 ghost use Rattle.slot_choice.specs.declared.choice.Choice.{Choice};
 ghost use Rattle.boot_script.specs.Events.{Buy, PowerOn, Reset};
 ghost use Rattle.boot_machine.specs.Boots.{booted};
-ghost use Rattle.boot_plays.specs.Plays.{powerless};
+ghost use Rattle.boot_machine.specs.Plays.{powerless};
 ghost use Rattle.trial_buy.specs.Buying.{buy_steps};
 ghost use Rattle.boot_machine.specs.Machines.{FromFlash, FromRam, Off, Running};
 ghost use Rattle.text_lines.specs.declared.outcome.EventOutcome.TheVariants as event_outcomes;

@@ -5,7 +5,7 @@ ghost use Rattle.std.specs.Prelude.{◌≡◌, ◌↔◌, ◌∷◌, ◌++◌, [
 ghost use Rattle.pico_board.specs.declared.Step.{Step};
 ghost use Rattle.pico_board.specs.declared.boot.Cpu.{Cpu};
 ghost use Rattle.boot_script.specs.Events.{EventView};
-ghost use Rattle.boot_plays.specs.Plays.{powerless};
+ghost use Rattle.boot_machine.specs.Plays.{powerless};
 ghost use Rattle.pico_board.specs.Content.{Content};
 ghost use Rattle.pico_board.specs.Steps.{CutOf, after_all};
 ghost use Rattle.part_table.specs.declared.Target.{Target};

@@ -9,7 +9,7 @@ ghost use Rattle.text_lines.specs.declared.outcome.EventOutcome.TheVariants as e
 ghost use Rattle.boot_machine.specs.Machines.{Off, InBootsel, Running, FromRam};
 ghost use Rattle.cli_course.specs.declared.status.Status.TheVariants.{Done};
 ghost use Rattle.cli_course.specs.Outcomes.{worked};
-ghost use Rattle.boot_plays.specs.Plays.{played, powerless};
+ghost use Rattle.boot_machine.specs.Plays.{played, powerless};
 ghost use Rattle.cli_scripts.specs.ReplayWorks.{content_files, event_lines, end_line, replay_work};
 ghost use Rattle.text_lines.specs.Examples.{example_image};
 ghost use Rattle.cli_scripts.specs.ReplayExamples.{example_content};

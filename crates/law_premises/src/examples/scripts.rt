@@ -4,7 +4,7 @@ ghost use Rattle.std.specs.Prelude.{◌∷◌, [], true, false, Some, codes};
 ghost use Rattle.boot_script.specs.Events.{EventView};
 ghost use Rattle.script_words.specs.Saying.{HasEventBytes, IsEvent};
 ghost use Rattle.script_text.specs.Meaning.{IsWithinLimits};
-ghost use Rattle.boot_plays.specs.Plays.{IsOfBytes};
+ghost use Rattle.boot_machine.specs.Plays.{IsOfBytes};
 ghost use Rattle.boot_machine.specs.Standing.{Carries};
 ghost use Rattle.law_downloads.specs.Copied.{AreLostUpdates, IsCutDownload};
 ghost use Rattle.law_downloads.specs.Examples.{second_slot, two_page_image};

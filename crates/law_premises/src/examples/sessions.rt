@@ -5,7 +5,7 @@ ghost use Rattle.boot_rules.specs.declared.decision.Decision.TheVariants.{Start}
 ghost use Rattle.boot_script.specs.Events.{EventView};
 ghost use Rattle.boot_session.specs.CutSessions.{ConfinedSession, IsInNoUnit, StartsOutside};
 ghost use Rattle.boot_sweep.specs.Verdicts.{IsBeside};
-ghost use Rattle.boot_plays.specs.Plays.{powerless};
+ghost use Rattle.boot_machine.specs.Plays.{powerless};
 ghost use Rattle.boot_sweep.specs.Firms.{HasOwnDigests, covered_by};
 ghost use Rattle.image_check.specs.SameImage.{HoldsImage};
 ghost use Rattle.law_boot_cuts.specs.Running.{LosesBuy, RunsTrial};
@@ -22,7 +22,7 @@ ghost use Rattle.worked_flashes.specs.Flashes.{bare, bare_owner, begins_with, be
 ghost use Rattle.worked_flashes.specs.Writes.{plain_steps, slot};
 ghost use Rattle.law_premises.specs.Examples.{armed_machine, digested_flash, digested_image, first_program, lost_machine, owned_second, swept_slot, trial_flash, trial_machine};
 
-use boot_plays::laws::{told_moves_are_determined, told_plays_are_determined};
+use boot_machine::laws::plays::{told_moves_are_determined, told_plays_are_determined};
 use boot_session::examples::session::a_cut_between_two_pages;
 
 /// Version 1.10 is written next to 1.9, and power is lost before its second page. This is a

@@ -4,7 +4,7 @@ ghost use Rattle.std.specs.Prelude.{◌≡◌, ◌⊎◌, ◌+◌, ℕ, Contains
 ghost use Rattle.std.specs.List.{AllByRecursion};
 ghost use Rattle.boot_machine.specs.Machines.{Host, MachineView};
 ghost use Rattle.boot_machine.specs.Serving.{table_of_found};
-ghost use Rattle.boot_plays.specs.Plays.{powerless};
+ghost use Rattle.boot_machine.specs.Plays.{powerless};
 ghost use Rattle.boot_rules.specs.Chosen.{Chosen};
 ghost use Rattle.boot_rules.specs.declared.decision.Decision.{Decision};
 ghost use Rattle.boot_rules.specs.declared.decision.Decision.TheVariants.{Start};

@@ -4,7 +4,7 @@ use Rattle.boot_script.specs.Events.{EventView}
 use Rattle.boot_script.specs.Scripts.{script_events}
 use Rattle.boot_script.proofs.JudgingLemmas.{script-formed}
 use Rattle.boot_script.proofs.WalkLemmas.{few-records}
-use Rattle.boot_plays.specs.Plays.{powerless}
+use Rattle.boot_machine.specs.Plays.{powerless}
 use Rattle.boot_tape.specs.Playing.{IsPlay}
 use Rattle.boot_tape.proofs.PlayLemmas.{begins-ready, play-first, traced-end}
 use Rattle.boot_tape.proofs.playing.trace_on.Goals as goal

@@ -2,7 +2,7 @@ use Rattle.std.proofs.Common.{◌+◌, ◌<◌, ◌≤◌, length}
 use Rattle.pico_board.specs.MemBoard.{state_of}
 use Rattle.boot_script.specs.declared.limits.TheConstants.{RECORD_LIMIT}
 use Rattle.boot_script.specs.Scripts.{script_events}
-use Rattle.boot_plays.specs.Plays.{powerless}
+use Rattle.boot_machine.specs.Plays.{powerless}
 use Rattle.boot_tape.specs.Playing.{IsPlay, IsReady}
 use Rattle.boot_tape.proofs.playing.trace_on.Given as goal
 

@@ -1,4 +1,4 @@
-use Rattle.boot_plays.specs.Plays.{powerless}
+use Rattle.boot_machine.specs.Plays.{powerless}
 use Rattle.check_laws.specs.OwnLaws.{BootMade, BuyMade, IsBootKept, IsBuyKept, boot_kept, boots_in, buys_in, raises_own}
 use Rattle.check_laws.proofs.WriteLawLemmas.{one-law}
 use Rattle.check_laws.proofs.laws.one_law_of_writes.Goals as goal

@@ -4,7 +4,7 @@ use Rattle.pico_board.specs.Supply.{armed_of}
 use Rattle.boot_script.specs.Events.{event_from}
 use Rattle.text_lines.specs.Events.{outcome_text}
 use Rattle.boot_machine.specs.Standing.{Stands}
-use Rattle.boot_plays.proofs.PlayLemmas.{moves-only}
+use Rattle.boot_machine.proofs.PlayLemmas.{moves-only}
 use Rattle.cli_scripts.proofs.replaying.step.Goals as goal
 
 pub returns : goal.returns

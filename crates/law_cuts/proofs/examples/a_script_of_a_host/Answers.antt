@@ -13,7 +13,7 @@ use Rattle.boot_rules.specs.Choosing.{decision_in}
 use Rattle.boot_rules.specs.Tables.{table_in}
 use Rattle.picoboot_cmd.specs.Pages.{padded_page}
 use Rattle.script_plan.specs.Commands.{erase_cmd, sent, write_cmd}
-use Rattle.boot_plays.specs.Plays.{moved_machine}
+use Rattle.boot_machine.specs.Plays.{moved_machine}
 use Rattle.boot_sweep.specs.Moving.{MoveView, Done}
 use Rattle.boot_tape.specs.Moving.{does_step}
 use Rattle.worked_flashes.specs.Choices.{small_former}

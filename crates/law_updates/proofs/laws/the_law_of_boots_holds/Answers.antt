@@ -1,5 +1,5 @@
 use Rattle.check_laws.specs.OwnLaws.{BootMade, IsBootKept, boots_in}
-use Rattle.boot_plays.specs.Plays.{powerless}
+use Rattle.boot_machine.specs.Plays.{powerless}
 use Rattle.law_updates.proofs.MadeLemmas.{boot-kept, one-kept}
 use Rattle.law_updates.proofs.laws.the_law_of_boots_holds.Goals as goal
 

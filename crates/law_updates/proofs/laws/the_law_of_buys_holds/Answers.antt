@@ -1,5 +1,5 @@
 use Rattle.check_laws.specs.OwnLaws.{BuyMade, IsBuyKept, buys_in}
-use Rattle.boot_plays.specs.Plays.{powerless}
+use Rattle.boot_machine.specs.Plays.{powerless}
 use Rattle.law_updates.proofs.MadeLemmas.{one-kept}
 use Rattle.law_updates.proofs.laws.the_law_of_buys_holds.Goals as goal
 

@@ -1,5 +1,5 @@
 use Rattle.std.proofs.Common.{refl}
-use Rattle.boot_plays.specs.Plays.{moved_machine}
+use Rattle.boot_machine.specs.Plays.{moved_machine}
 use Rattle.check_records.specs.Shares.{share_of}
 use Rattle.check_records.proofs.examples.records.events_that_keep.Goals as goal
 

@@ -1,5 +1,5 @@
 use Rattle.std.proofs.Common.{refl}
-use Rattle.boot_plays.specs.Plays.{moved_machine}
+use Rattle.boot_machine.specs.Plays.{moved_machine}
 use Rattle.cli_scripts.proofs.examples.replays.events_without_power.Goals as goal
 
 pub returns-clause-nothing : goal.returns-clause-nothing

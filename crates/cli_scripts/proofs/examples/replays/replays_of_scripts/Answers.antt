@@ -1,7 +1,7 @@
 use Rattle.std.proofs.Common.{refl}
 use Rattle.std.specs.Fmt.{digits}
 use Rattle.block_codec.specs.Words.{word_bytes}
-use Rattle.boot_plays.specs.Plays.{moved_machine}
+use Rattle.boot_machine.specs.Plays.{moved_machine}
 use Rattle.cli_scripts.proofs.examples.replays.replays_of_scripts.Goals as goal
 
 pub returns : goal.returns

@@ -28,7 +28,7 @@ use Rattle.text_lines.specs.declared.outcome.EventOutcome.{EventOutcome}
 use Rattle.text_lines.specs.declared.outcome.EventOutcome.TheVariants.{PowerLost}
 use Rattle.boot_machine.specs.Machines.{MachineView}
 use Rattle.boot_machine.specs.Moves.{Moves, Plays}
-use Rattle.boot_plays.specs.Plays.{IsTelling, moved_machine, played, powerless}
+use Rattle.boot_machine.specs.Plays.{IsTelling, moved_machine, played, powerless}
 use Rattle.law_boot_cuts.specs.Crashes.{IsUnitWindow}
 use Rattle.law_boot_cuts.specs.Examples.{whole_unit}
 use Rattle.law_boot_cuts.specs.Running.{buys}

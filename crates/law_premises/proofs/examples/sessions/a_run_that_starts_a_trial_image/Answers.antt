@@ -15,7 +15,7 @@ use Rattle.boot_rules.specs.Tables.{table_in}
 use Rattle.boot_script.specs.Events.{EventView}
 use Rattle.boot_machine.specs.Machines.{MachineView}
 use Rattle.boot_machine.specs.Moves.{Plays}
-use Rattle.boot_plays.specs.Plays.{IsTelling, moved_machine, played, powerless}
+use Rattle.boot_machine.specs.Plays.{IsTelling, moved_machine, played, powerless}
 use Rattle.worked_flashes.proofs.ContentLemmas.{all_below, below-all}
 use Rattle.law_premises.specs.Examples.{trial_flash, trial_machine}
 use Rattle.law_premises.proofs.examples.sessions.a_run_that_starts_a_trial_image.Goals as goal

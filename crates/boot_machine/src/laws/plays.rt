@@ -8,7 +8,7 @@ ghost use Rattle.boot_script.specs.Events.{EventView};
 ghost use Rattle.text_lines.specs.declared.outcome.EventOutcome.{EventOutcome};
 ghost use Rattle.boot_machine.specs.Machines.{MachineView};
 ghost use Rattle.boot_machine.specs.Moves.{Moves, Plays};
-ghost use Rattle.boot_plays.specs.Plays.{IsOfBytes, IsTelling, moved_machine, played};
+ghost use Rattle.boot_machine.specs.Plays.{IsOfBytes, IsTelling, moved_machine, played};
 
 /// By the table of the machine, an event takes a machine whose board tells its armed cut to one
 /// machine, with one outcome. They are those of the function.

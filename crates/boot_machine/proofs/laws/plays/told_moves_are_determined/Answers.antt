@@ -1,6 +1,6 @@
-use Rattle.boot_plays.proofs.PlayLemmas.{moves-only}
-use Rattle.boot_plays.proofs.TornLemmas.{moved-moves}
-use Rattle.boot_plays.proofs.laws.told_moves_are_determined.Goals as goal
+use Rattle.boot_machine.proofs.PlayLemmas.{moves-only}
+use Rattle.boot_machine.proofs.TornLemmas.{moved-moves}
+use Rattle.boot_machine.proofs.laws.plays.told_moves_are_determined.Goals as goal
 
 pub returns-clause-only : goal.returns-clause-only
 returns-clause-only c = λ m cut event n outcome told moves.

@@ -1,6 +1,6 @@
-use Rattle.boot_plays.proofs.PlayLemmas.{plays-only}
-use Rattle.boot_plays.proofs.TornLemmas.{played-plays}
-use Rattle.boot_plays.proofs.laws.told_plays_are_determined.Goals as goal
+use Rattle.boot_machine.proofs.PlayLemmas.{plays-only}
+use Rattle.boot_machine.proofs.TornLemmas.{played-plays}
+use Rattle.boot_machine.proofs.laws.plays.told_plays_are_determined.Goals as goal
 
 pub returns-clause-only : goal.returns-clause-only
 returns-clause-only c = λ m cut events n outcomes told plays.

@@ -13,8 +13,8 @@ use Rattle.text_lines.specs.declared.outcome.EventOutcome.TheVariants as event_o
 use Rattle.boot_machine.specs.Machines.{MachineView, Off}
 use Rattle.boot_machine.specs.Boots.{Effect}
 use Rattle.boot_machine.specs.Moves.{Moves, MovesBy, Plays, effect}
-use Rattle.boot_plays.specs.Plays.{HasPatternBytes, IsOfBytes, IsTelling, Moved, moved_machine, moved_as, played}
-use Rattle.boot_plays.proofs.PlayLemmas.{armed_as, armed-told, moved-as}
+use Rattle.boot_machine.specs.Plays.{HasPatternBytes, IsOfBytes, IsTelling, Moved, moved_machine, moved_as, played}
+use Rattle.boot_machine.proofs.PlayLemmas.{armed_as, armed-told, moved-as}
 
 -- what a board tells of steps: all are done, or power was lost in one of them
 pub record IsToldOf (c : Content) (steps : List Step) (o : CutOutcome) : Type 0 where

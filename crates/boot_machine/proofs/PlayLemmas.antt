@@ -8,7 +8,7 @@ use Rattle.text_lines.specs.declared.outcome.EventOutcome.TheVariants as event_o
 use Rattle.boot_machine.specs.Machines.{MachineView, Off}
 use Rattle.boot_machine.specs.Boots.{Effect}
 use Rattle.boot_machine.specs.Moves.{Moves, MovesBy, Plays, armed_for, effect}
-use Rattle.boot_plays.specs.Plays.{Moved, Played, moved_machine, moved_as, played, told_cut}
+use Rattle.boot_machine.specs.Plays.{Moved, Played, moved_machine, moved_as, played, told_cut}
 
 -- a machine that is one of another's parts
 same-machine : (n : MachineView) (content : Content) (armed : Option (Option Cut)) (m : MachineView)

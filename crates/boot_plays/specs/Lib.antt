@@ -1,2 +1,0 @@
--- These definitions are this project's own, except where a comment names a public source.
-pub mod Plays
