@@ -32,7 +32,7 @@ use Rattle.cli_boot.proofs.BoardWorkLemmas.{boot-works, info-works, data-works}
 use Rattle.cli_explain.proofs.ReasonWorkLemmas.{explain-works}
 use Rattle.cli_check.proofs.CheckRuleLemmas.{asked-works, check-works}
 use Rattle.check_require.specs.Requires.{default_require}
-use Rattle.cli_cuts.proofs.CutsRuleLemmas.{cuts-works}
+use Rattle.cli_check.proofs.CutsRuleLemmas.{cuts-works}
 use Rattle.cli_caveats.proofs.CaveatWorkLemmas.{caveats-works}
 use Rattle.cli_map.proofs.MapWorkLemmas.{map-works}
 use Rattle.cli_otp.proofs.OtpWorkLemmas.{otp-works}

@@ -22,8 +22,8 @@ use Rattle.check_require.specs.Requires.{default_require}
 use Rattle.check_require.specs.Texts.{require_read}
 use Rattle.cli_check.specs.CheckRules.{IsAskedOf, IsCheckOf, IsCheckRefused}
 use Rattle.cli_check.specs.CheckWorks.{asked_work, check_work}
-use Rattle.cli_cuts.specs.CutsRules.{IsCutsOf, IsCutsRefused}
-use Rattle.cli_cuts.specs.CutsWorks.{cuts_work}
+use Rattle.cli_check.specs.CutsRules.{IsCutsOf, IsCutsRefused}
+use Rattle.cli_check.specs.CutsWorks.{cuts_work}
 use Rattle.cli_caveats.specs.Works.{caveats_work}
 use Rattle.cli_map.specs.Works.{map_work}
 use Rattle.cli_otp.specs.OtpOutcomes.{IsOtpOf}

@@ -15,9 +15,8 @@ ghost use Rattle.boot_run.specs.Commands.{IsDone, command_outcome};
 
 use cli_boot::{boot, data, info};
 use cli_caveats::caveats;
-use cli_check::{check, check_asked};
+use cli_check::{check, check_asked, cuts};
 use cli_course::{Answer, told};
-use cli_cuts::cuts;
 use cli_explain::explain;
 use cli_inputs::{
     InputFail, five, four, one, read_binary, read_board, read_elf, read_image, read_otp,

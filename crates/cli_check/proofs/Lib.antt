@@ -15,3 +15,5 @@ mod PairLemmas
 mod NameLemmas
 pub mod WorkLemmas
 mod LostLemmas
+mod StatusLemmas
+pub mod CutsRuleLemmas

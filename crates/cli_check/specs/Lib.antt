@@ -8,3 +8,7 @@ pub mod FindingRules
 pub mod CheckRules
 pub mod Names
 pub mod Examples
+pub mod CutsTexts
+pub mod CutsExamples
+pub mod CutsWorks
+pub mod CutsRules

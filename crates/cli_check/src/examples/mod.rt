@@ -1,5 +1,6 @@
 //! Worked examples, each the contract of a function that does nothing.
 
+pub mod cuts;
 pub mod names;
 pub mod reports;
 pub mod texts;

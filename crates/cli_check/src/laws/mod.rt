@@ -1,5 +1,6 @@
 //! Laws of the work, each the contract of a function that does nothing.
 
+pub mod cuts;
 pub mod names;
 pub mod reports;
 

@@ -1,2 +1,0 @@
-mod StatusLemmas
-pub mod CutsRuleLemmas

@@ -1,7 +1,0 @@
-use Rattle.std.proofs.Common.{◌≡◌, drop}
-use Rattle.cli_cuts.specs.CutsWorks.{has_any, run_answers}
-use Rattle.cli_cuts.proofs.cutting.has_any.Given as goal
-
--- the rest decides
-abbrev pub invariant-loop-run : goal.invariant-loop-run
-invariant-loop-run l = has_any l.class (run_answers (drop l.run-index l.runs)) ≡ has_any l.class (run_answers l.runs)
