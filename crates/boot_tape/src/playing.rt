@@ -39,7 +39,8 @@ fn machine_of(
         (powerless (state_of board.now).content cpu)) }
     ensures none { IfOk result (λ machine. HasRecorded machine.board []) }
 {
-    let recorder = Recorder::make(alloc, copy_of(alloc, board)?, ArrayVec::new())?;
+    let units = ArrayVec::new();
+    let recorder = Recorder::make(alloc, copy_of(alloc, board)?, units)?;
     let pool = SectorPool::make(alloc, 2)?;
     let download = Download::make(alloc)?;
     let ram = Ram::make(alloc)?;
