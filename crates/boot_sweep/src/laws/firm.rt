@@ -26,9 +26,9 @@ pub fn trial_images_may_be_firm()
         → IsFirm cpu (window_bytes c w) s → Firm c w cpu s }
 {}
 
-/// Let a gated session write a firm image into a boot member's window, on a flash with a table. Let
-/// a cut in a step other than the first one leave no stray block in that window. Then it leaves no
-/// accidental image there, where covered texts that differ have digests that differ.
+/// On a flash with a table, let a gated session write a firm image into a slot of a pair, and a
+/// cut in a step other than the first one leave an unfinished content without a stray block. Then
+/// it leaves no accidental image, where covered texts that differ have digests that differ.
 pub fn a_firm_image_leaves_no_accidental_image()
     ensures { (c : Content) (w : Window) (cpu : Cpu) (steps : List Step) (s : Started) (k : ℕ)
         (step : Step) (d : Content) (found : Found)
@@ -38,8 +38,7 @@ pub fn a_firm_image_leaves_no_accidental_image()
         → Unfinished c steps w d → HasNoAccidentalImage c (after_all c steps) d w cpu }
 {}
 
-/// What is left between two steps of a gated session, where it is unfinished, has no stray block
-/// in the session's window.
+/// Where an unfinished content is left before a step of a gated session, it has no stray block.
 pub fn no_block_is_stray_between_programs()
     ensures { (c : Content) (w : Window) (steps done others : List Step) (step : Step)
         → IsContent c → w.start + w.len ≤ length c.flash → Gated steps w

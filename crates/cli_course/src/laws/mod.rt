@@ -7,7 +7,7 @@ ghost use Rattle.cli_course.specs.Statuses.{exit_status};
 ghost use Rattle.cli_course.specs.Outcomes.{LimitedInputView as ReadInput, is_finished};
 ghost use Rattle.cli_course.specs.Ends.{cut};
 
-/// The program ends with one of twelve numbers, by how the run ended.
+/// The program ends with one of thirteen numbers, by how the run ended.
 pub fn statuses_have_numbers()
     ensures done { exit_status Done ≡ 0 }
     ensures words { exit_status Words ≡ 1 }

@@ -79,8 +79,8 @@ pub fn own_writes_of_a_valid_image()
 /// the buy on the content as it is, and the image stands in a boot unit. Where the cut leaves no
 /// accidental image (`LeavesNoAccidentalImage`), the pick of that unit is the former one or the
 /// bought image. With a table, and where no raised row lies in the triple of a row that another
-/// unit's image lists, power that comes back leads where the former decision leads. Or it starts
-/// the bought image, as after a whole buy.
+/// unit's image lists, power that comes back, and is not lost again at once, leads where the
+/// former decision leads. Or it starts the bought image, as after a whole buy.
 pub fn a_buy_that_loses_power()
     ensures steps { (m n o : MachineView) (choice : Choice) → RunsTrial m n choice
         → Moves n EventView.Buy o PowerLost

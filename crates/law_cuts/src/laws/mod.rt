@@ -34,10 +34,11 @@ pub fn a_trace_is_a_session()
         → (trace c cpu events).moves ≡ map (λ step. Done step) (session c cpu events) }
 {}
 
-/// A sweep is a case. Where it refuses nothing, there are as many cuts as lines before the last
-/// one. Each line `former` is a cut of class `former`, each `finished` a `finished`, and each
-/// `chance` a `whole`, `tail`, `mixed` or `bootsel`; and so it is with the result of the last line
-/// and the class of what the script leaves.
+/// A sweep is a case, of a script that is one session of a host and whose boots write nothing.
+/// Where it refuses nothing, there are as many cuts as lines before the last one. Each line
+/// `former` is a cut of class `former`, each `finished` a `finished`, and each `chance` a `whole`,
+/// `tail`, `mixed` or `bootsel`; and so it is with the result of the last line and the class of
+/// what the script leaves.
 pub fn a_sweep_is_a_case()
     ensures lines { (c : Content) (cpu : Cpu) (events : List EventView) (pattern : List ℕ) (n : ℕ)
         (line : Line)
@@ -54,9 +55,11 @@ pub fn a_sweep_is_a_case()
         → EndsFor c cpu events result }
 {}
 
-/// A gated session leaves the former or the finished image, but by an accidental image. What a cut
-/// of another class left is unfinished, and has another table, or an accidental image in the slot.
-/// So it is with the pattern that a cut within leaves, and whatever bytes it leaves.
+/// A gated session leaves the former or the finished image, but by an accidental image. Let it be
+/// all of a script whose boots write nothing, on a slot in which no normal boot before it starts,
+/// and let it leave the table. What a cut of another class left is unfinished, and has another
+/// table, or an accidental image in the slot. So it is with the pattern that a cut within leaves,
+/// and whatever bytes it leaves.
 pub fn a_gated_session_leaves_one_of_two_images()
     ensures cuts { (c : Content) (cpu : Cpu) (events : List EventView) (pattern : List ℕ)
         (w : Window) (n : ℕ) (d : Content) (class : Class)

@@ -65,11 +65,11 @@ pub fn copied_download()
         ≡ Ok (copy_events (map written_block (file_blocks image family))) }
 {}
 
-/// Suppose that power is lost in such a session into a member of a boot unit's pair. Then all
-/// premises of the law on gated sessions hold. One of them asks for nothing here: the former
-/// answer is no image in the window, since a target never runs. So the next normal boot decides as
-/// before, or it makes the start that it makes after the whole session, of an image with the same
-/// bytes.
+/// Suppose that power is lost in such a session into a member of a boot unit's pair, that the
+/// whole session leaves the table, and that the loss leaves no accidental image (`IsCutDownload`).
+/// Then all premises of the law on gated sessions hold, also that the former answer is no image in
+/// the window, since a target never runs. So the next normal boot decides as before, or it makes
+/// the start that it makes after the whole session, of an image with the same bytes.
 pub fn copied_cut()
     ensures session { (c : Content) (cpu : Cpu) (family : ℕ) (target : Target) (image : List ℕ)
         (d : Content) (e : Decision)

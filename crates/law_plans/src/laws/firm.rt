@@ -32,10 +32,11 @@ ghost use Rattle.law_plans.specs.Lone.{HasLoneLoop};
 use crate::laws::plans::the_session_of_a_plan;
 use boot_sweep::laws::firm::no_cut_before_a_step_is_chance;
 
-/// Suppose that a sealed image is of a binary of at least 4096 bytes, and that each block in its
-/// first sector is one of its loop. Then it is firm at the start of each window that has 0xff
-/// after it, on every OTP that meets the spec's rollback rule. Where its binary's own loads are
-/// stored in the binary, it is firm too in the bytes that a plan leaves of it.
+/// Suppose that a sealed image is of a binary of at least 4096 bytes, that each block in its first
+/// sector is one of its loop, and that major and minor of its version are half words. Then it is
+/// firm at the start of each window that has 0xff after it, on every OTP that meets the spec's
+/// rollback rule. Where its binary's own loads are stored in the binary, it is firm too in the
+/// bytes that a plan leaves of it.
 pub fn a_sealed_image_is_firm()
     ensures filled { (binary : List ℕ) (spec : SealSpec) (sealed : IsSealed binary spec)
         (c : Content) (w : Window) (f : List ℕ)

@@ -75,7 +75,8 @@ pub fn the_last_page_of_a_stage_is_the_images()
 {}
 
 /// Where `stage` prints `order=staged` for a slot of which each byte may be written, the session of
-/// its script is staged on that slot. So the laws above hold of it.
+/// its script is staged on that slot. So the laws on staged sessions hold of it, where the slot is
+/// one of a pair, of which a normal boot starts no image.
 pub fn a_stage_is_staged()
     ensures { (c : Content) (cpu : Cpu) (image out : List ℕ) (o : AnswerView)
         (is : IsStageOf c cpu image out o) (es : List EventView)
