@@ -1,6 +1,6 @@
 -- A cut is a replay: a script that arms it before its event leaves its content, and power that comes back boots it.
 use Rattle.std.proofs.Common.{◌≡◌, ℕ, zero, suc, ◌+◌, ◌-◌, ◌*◌, Bool, true, false, List, [], ◌∷◌, ◌++◌, length, take, Option, Some, None, refl, sym, ap, ◌∙◌, subst, arith, append_assoc}
-use Rattle.std.specs.Prelude.{◌==◌, if◌then◌else◌, slice_get, option_map, codes}
+use Rattle.std.specs.Prelude.{◌==◌, if◌then◌else◌, slice_get, option_map}
 use Rattle.std.proofs.lemmas.Bool.Decides.{nat_tests}
 use Rattle.pico_board.specs.declared.Step.{Step}
 use Rattle.pico_board.specs.declared.boot.Cpu.{Cpu}
@@ -13,7 +13,6 @@ use Rattle.boot_script.specs.Events.{EventView}
 use Rattle.text_lines.specs.declared.outcome.EventOutcome.TheVariants as event_outcomes
 use Rattle.boot_machine.specs.Machines.{MachineView, Off}
 use Rattle.boot_machine.specs.Moves.{armed_for, effect, reset}
-use Rattle.text_lines.specs.Texts.{decision_text}
 use Rattle.boot_machine.specs.Plays.{Moved, Played, moved_as, moved_machine, played, powerless, told_cut}
 use Rattle.boot_machine.proofs.PlayLemmas.{moved-as, moved-told}
 use Rattle.boot_cuts.specs.Contents.{cut_content, cut_contents}

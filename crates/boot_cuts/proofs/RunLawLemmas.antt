@@ -10,7 +10,6 @@ use Rattle.equal_runs.proofs.OneLemmas.{views-one}
 use Rattle.boot_cuts.specs.declared.answers.Answer.{Answer}
 use Rattle.cut_class.specs.declared.class.Class.{Class}
 use Rattle.cut_class.proofs.ClassLemmas.{class-self, same-class}
-use Rattle.cut_class.specs.Classes.{is_same_class}
 use Rattle.boot_cuts.specs.declared.runs.Run.{Run}
 use Rattle.boot_cuts.specs.Runs.{AreRuns, is_same_answer, lone_run, longer_run, run_view, runs_of, runs_behind as cuts_behind}
 

@@ -1,5 +1,5 @@
 -- Runs of cuts: as many cuts, one after the other, as have one class and one decision.
-use Rattle.std.specs.Prelude.{ℕ, ◌+◌, ◌&&◌, Bool, true, false, if◌then◌else◌, List, [], ◌∷◌, ◌++◌, map, Option, Some, None}
+use Rattle.std.specs.Prelude.{ℕ, ◌+◌, ◌&&◌, Bool, if◌then◌else◌, List, [], ◌∷◌, ◌++◌, map, Option, Some, None}
 use Rattle.equal_runs.specs.Runs.{RunOf, AreRuns as AreEqualRuns}
 use Rattle.boot_sweep.specs.Comparing.{is_same_decision}
 use Rattle.boot_cuts.specs.declared.answers.Answer.{Answer}

@@ -2,7 +2,7 @@
 //! then depends on that member's image alone. It is made anew only where that has become another
 //! one.
 
-ghost use Rattle.std.specs.Prelude.{◌≡◌, ◌+◌, ◌≤◌, true, IfOk, IsTrue, OnOk, length};
+ghost use Rattle.std.specs.Prelude.{◌≡◌, ◌+◌, true, IfOk, IsTrue, OnOk, length};
 ghost use Rattle.pico_board.specs.declared.boot.BootKind.TheVariants.{Normal};
 ghost use Rattle.pico_board.specs.Content.{AreApart};
 ghost use Rattle.pico_board.specs.MemBoard.{state_of};

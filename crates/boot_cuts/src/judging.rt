@@ -7,7 +7,6 @@ ghost use Rattle.pico_board.specs.MemBoard.{state_of};
 ghost use Rattle.sector_pool.specs.Keeping.{KeepsOut};
 ghost use Rattle.sector_pool.specs.Pool.{HasFree};
 ghost use Rattle.image_check.specs.SameImage.{HoldsImage};
-ghost use Rattle.boot_rules.specs.Choosing.{decision_in};
 ghost use Rattle.boot_sweep.specs.Comparing.{is_same_image};
 ghost use Rattle.boot_rules.specs.Chosen.{Chosen};
 ghost use Rattle.boot_cuts.specs.Answers.{answer_of};

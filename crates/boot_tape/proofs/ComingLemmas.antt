@@ -28,14 +28,13 @@ use Rattle.ram_start.specs.Serving.{is_ram_command}
 use Rattle.image_def.specs.declared.started.Started.{Started}
 use Rattle.boot_rules.specs.Targets.{target_of}
 use Rattle.boot_script.specs.Events.{EventView}
-use Rattle.boot_session.specs.Playing.{HasServed}
 use Rattle.boot_session.proofs.ServedLemmas.{all-served}
 use Rattle.text_lines.specs.declared.outcome.EventOutcome.{EventOutcome}
 use Rattle.text_lines.specs.declared.outcome.EventOutcome.TheVariants as event_outcomes
 use Rattle.boot_machine.specs.declared.parts.Parts.{Parts}
 use Rattle.boot_machine.specs.declared.state.State.{State}
 use Rattle.boot_machine.specs.declared.state.State.TheVariants as states
-use Rattle.boot_machine.specs.Boots.{Effect, booted}
+use Rattle.boot_machine.specs.Boots.{booted}
 use Rattle.boot_machine.specs.Machines.{Host, MachineView, Program, StateView, Off, InBootsel, Running, FromFlash, FromRam}
 use Rattle.boot_machine.specs.Moves.{IsLost, Moves, MovesBy, armed_for, effect, effect_in}
 use Rattle.boot_machine.specs.Serving.{ServedEvent, block_served, blocks_of, command_served, followed, followed_by, is_hosted, ram_place, ruling_on, served_event, serves, serves_ram, table_of_found, taken_in, uf2_served}
@@ -43,7 +42,7 @@ use Rattle.boot_machine.specs.Standing.{IsStep, Serves, Stands, StandsAt, is_boo
 use Rattle.boot_tape.specs.declared.notes.Behind.{Behind}
 use Rattle.boot_session.specs.declared.recorder.Recorder.{Recorder}
 use Rattle.boot_tape.specs.Playing.{HasCome, IsStepped, asked_effect, behind_in, recorded_state}
-use Rattle.boot_tape.specs.Traces.{behind, behind_asked, behind_other, behind_served, came_of, image_of, outcome_before, own_steps, served_in, served_steps}
+use Rattle.boot_tape.specs.Traces.{behind, behind_asked, behind_other, behind_served, image_of, outcome_before, own_steps, served_in, served_steps}
 use Rattle.boot_session.specs.Recordings.{IsHistoryOf, IsRecordOf, first_steps}
 use Rattle.boot_tape.proofs.PlayLemmas.{no-loss, records-more, stepped-by}
 

@@ -19,11 +19,9 @@ use Rattle.boot_machine.specs.Moves.{armed_for, effect, effect_in, off_effect, r
 use Rattle.boot_machine.specs.Serving.{ServedEvent, followed_by, is_hosted, served_event}
 use Rattle.boot_machine.specs.Plays.{moved_machine, told_cut}
 use Rattle.boot_tape.specs.declared.notes.Came.{Came}
-use Rattle.boot_tape.specs.declared.notes.Doer.{Doer}
 use Rattle.boot_tape.specs.declared.notes.Doer.TheVariants.{Boot, Buy, Host}
 use Rattle.boot_tape.specs.declared.notes.Behind.{Behind}
 use Rattle.boot_tape.specs.declared.notes.Behind.TheVariants as behinds
-use Rattle.boot_tape.specs.declared.notes.Note.{Note}
 use Rattle.boot_tape.specs.CutMoves.{CutMoves, cut_moves}
 use Rattle.boot_tape.specs.Doers.{doers, doers_behind, is_own_whole, note_doers}
 use Rattle.boot_tape.specs.Examples.{noting}

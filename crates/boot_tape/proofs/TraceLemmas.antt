@@ -4,12 +4,11 @@ use Rattle.std.specs.Prelude.{◌==◌, ◌||◌, if◌then◌else◌, min, nat_
 use Rattle.std.specs.List.{AllByRecursion}
 use Rattle.std.proofs.lemmas.Bool.{cases_lt, le-ltb, lt-ltb}
 use Rattle.std.proofs.lemmas.Bool.Decides.{nat_tests}
-use Rattle.std.proofs.lemmas.List.{drop_more, length-take, length-take-le, replicate-append-replicate, take-append-le, take_all}
+use Rattle.std.proofs.lemmas.List.{drop_more, length-take, replicate-append-replicate, take_all}
 use Rattle.pico_board.specs.declared.Step.{Step}
-use Rattle.pico_board.specs.Board.{State, Does}
 use Rattle.pico_board.specs.Content.{Content}
 use Rattle.pico_board.specs.Cuts.{Cut, cut_by, cut_steps, cut_with, nearer, unless_cut}
-use Rattle.pico_board.specs.Steps.{IsStepIn, after, after_all}
+use Rattle.pico_board.specs.Steps.{after, after_all}
 use Rattle.pico_board.specs.MemBoard.{state_of}
 use Rattle.boot_session.proofs.PlanStepLemmas.{all-append}
 use Rattle.boot_tape.specs.declared.trace.Trace.{Trace}

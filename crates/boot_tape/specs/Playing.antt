@@ -1,12 +1,11 @@
 -- What the steps of an event come to where a cut of the script is armed, and a play on its way.
-use Rattle.std.specs.Prelude.{◌≡◌, ⊤, ℕ, ◌+◌, ◌-◌, ◌<◌, ◌≤◌, ◌==◌, Bool, true, false, if◌then◌else◌, List, [], ◌∷◌, ◌++◌, length, replicate, Option, Some, None, option_map}
-use Rattle.std.specs.List.{AllByRecursion}
+use Rattle.std.specs.Prelude.{◌≡◌, ⊤, ℕ, ◌+◌, ◌-◌, ◌<◌, ◌≤◌, Bool, true, false, List, [], ◌∷◌, ◌++◌, length, replicate, Option, Some, None, option_map}
 use Rattle.pico_board.specs.declared.mem_board.MemBoard.{MemBoard}
 use Rattle.pico_board.specs.MemBoard.{state_of}
 use Rattle.pico_board.specs.Histories.{Extends}
 use Rattle.pico_board.specs.Content.{Content}
 use Rattle.pico_board.specs.declared.boot.Cpu.{Cpu}
-use Rattle.pico_board.specs.Steps.{IsStepIn, after, after_all}
+use Rattle.pico_board.specs.Steps.{after, after_all}
 use Rattle.boot_script.specs.Events.{EventView}
 use Rattle.boot_session.specs.Standing.{IsUnarmed}
 use Rattle.boot_machine.specs.declared.parts.Parts.{Parts}
@@ -32,7 +31,7 @@ use Rattle.pico_board.specs.declared.Step.{Step}
 use Rattle.pico_board.specs.Cuts.{Cut, IsPattern, cut_by, cut_with}
 use Rattle.boot_tape.specs.declared.notes.Came.{Came}
 use Rattle.boot_tape.specs.declared.trace.ArmedCut.{ArmedCut}
-use Rattle.boot_tape.specs.Moving.{AreMovesIn, MoveView, Done, Torn, after_moves, done_count, moves_from, traced_by}
+use Rattle.boot_tape.specs.Moving.{AreMovesIn, Done, Torn, after_moves, done_count, moves_from, traced_by}
 
 -- the armed cut as plain data
 abbrev pub cut_from : ArmedCut → Cut

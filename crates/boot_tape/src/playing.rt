@@ -1,6 +1,6 @@
 //! The play of a script, which finds what it does to a board.
 
-ghost use Rattle.std.specs.Prelude.{◌≡◌, ◌+◌, ◌≤◌, ◌<◌, ◌∷◌, ◌&&◌, [], true, false, IfOk, OnOk, IsTrue, MatchOption, None, Some, List, length, option_map};
+ghost use Rattle.std.specs.Prelude.{◌≡◌, ◌+◌, ◌≤◌, ◌<◌, ◌∷◌, ◌&&◌, [], true, false, IfOk, OnOk, IsTrue, MatchOption, None, Some, List, option_map};
 ghost use Rattle.pico_board.specs.MemBoard.{state_of};
 ghost use Rattle.boot_script.specs.Events.{EventView, IsWritableEvent, event_from};
 ghost use Rattle.boot_script.specs.Scripts.{script_events};

@@ -1,11 +1,9 @@
 //! What is told of the contents that cuts leave, one after another.
 
 ghost use Rattle.std.specs.Prelude.{◌≡◌, ℕ, ⊤, IfOk, IsTrue, OnOk, length, map, not};
-ghost use Rattle.pico_board.specs.declared.boot.BootKind.TheVariants.{Normal};
 ghost use Rattle.pico_board.specs.MemBoard.{state_of};
 ghost use Rattle.sector_pool.specs.Keeping.{KeepsOut};
 ghost use Rattle.sector_pool.specs.Pool.{HasFree};
-ghost use Rattle.boot_rules.specs.Choosing.{decision_in};
 ghost use Rattle.boot_sweep.specs.EachCut.{compared_with};
 ghost use Rattle.boot_cuts.specs.Judging.{judge};
 ghost use Rattle.check_counts.specs.Facts.{has_other_table, is_on_other_data, is_raising};

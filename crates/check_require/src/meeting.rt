@@ -2,7 +2,7 @@
 
 ghost use Rattle.std.specs.Prelude.{◌≡◌, ◌≤◌, filter, length, not};
 ghost use Rattle.std.specs.List.{list_all};
-ghost use Rattle.check_require.specs.Meeting.{allows, are_cuts_allowed, has_data, has_effect, has_version, is_covered, is_hashed, is_kept, is_law_of, is_left_torn, is_met, is_of_both, is_overwritten, is_same_allowance, is_written_well, keeps_rows, may_come, may_come_by, some_bootsel, some_mixed, some_tail, some_whole, still_starts, unmet, verdict_on};
+ghost use Rattle.check_require.specs.Meeting.{allows, are_cuts_allowed, has_data, has_effect, has_version, is_covered, is_hashed, is_kept, is_law_of, is_met, is_overwritten, is_same_allowance, is_written_well, keeps_rows, may_come, may_come_by, some_bootsel, some_mixed, some_tail, some_whole, still_starts, unmet, verdict_on};
 ghost use Rattle.check_require.specs.Reports.{report_from};
 ghost use Rattle.check_require.specs.Requires.{require_from};
 

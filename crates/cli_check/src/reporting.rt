@@ -1,6 +1,6 @@
 //! What is found of an update, as far as a member of the text looks at it.
 
-ghost use Rattle.std.specs.Prelude.{◌≡◌, ◌++◌, IfOk, OnOk, is_some, length, map, option_to_list};
+ghost use Rattle.std.specs.Prelude.{◌≡◌, ◌++◌, IfOk, OnOk, map, option_to_list};
 ghost use Rattle.check_require.specs.Reports.{report_from};
 ghost use Rattle.check_counts.specs.Tallies.{tally_of};
 ghost use Rattle.cli_check.specs.Findings.{findings_from};

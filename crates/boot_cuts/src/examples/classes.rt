@@ -3,12 +3,11 @@
 ghost use Rattle.std.specs.Prelude.{◌≡◌, ◌∷◌, [], true, false, Ok};
 ghost use Rattle.pico_board.specs.declared.Step.TheVariants.{Erase};
 ghost use Rattle.pico_board.specs.declared.boot.Cpu.TheVariants.{Arm};
-ghost use Rattle.slot_choice.specs.Examples.{window_at};
 ghost use Rattle.cut_class.specs.declared.class.Class.TheVariants.{Former, Finished, Whole, Tail, Mixed, Bootsel};
 ghost use Rattle.boot_cuts.specs.Classes.{furthest};
 ghost use Rattle.boot_cuts.specs.Classing.{agrees_to_end, class_by, is_mended};
 ghost use Rattle.boot_cuts.specs.Counts.{class_count, runs_count};
-ghost use Rattle.boot_cuts.specs.Examples.{before, block_at, falls, falls_otherwise, finished, first_start, last_start, run_to, start_at, told};
+ghost use Rattle.boot_cuts.specs.Examples.{before, block_at, falls, falls_otherwise, finished, first_start, last_start, run_to, told};
 ghost use Rattle.cut_class.specs.Classes.{is_same_class};
 
 /// A cut is `former` where the boot decides as before, and the image that it starts has its bytes.

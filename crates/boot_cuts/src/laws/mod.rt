@@ -1,6 +1,6 @@
 //! Laws of cuts, each the contract of a function that does nothing.
 
-ghost use Rattle.std.specs.Prelude.{◌≡◌, ◌↔◌, ◌⊎◌, ◌+◌, ◌*◌, ◌++◌, ◌∷◌, [], ℕ, Bool, List, None, Some, codes, false, length, map, slice_get, take, true};
+ghost use Rattle.std.specs.Prelude.{◌≡◌, ◌↔◌, ◌⊎◌, ◌+◌, ◌*◌, ◌++◌, ◌∷◌, [], ℕ, Bool, List, None, Some, false, length, map, slice_get, true};
 ghost use Rattle.pico_board.specs.Content.{Content};
 ghost use Rattle.pico_board.specs.declared.boot.Cpu.{Cpu};
 ghost use Rattle.pico_board.specs.Cuts.{cut_by, cut_with};
@@ -15,8 +15,7 @@ ghost use Rattle.boot_sweep.specs.Moving.{MoveView};
 ghost use Rattle.boot_script.specs.Events.{EventView};
 ghost use Rattle.boot_machine.specs.Machines.{MachineView};
 ghost use Rattle.text_lines.specs.declared.outcome.EventOutcome.TheVariants as event_outcomes;
-ghost use Rattle.boot_machine.specs.Plays.{played, powerless, told_cut};
-ghost use Rattle.text_lines.specs.Texts.{decision_text};
+ghost use Rattle.boot_machine.specs.Plays.{played, powerless};
 ghost use Rattle.boot_cuts.specs.declared.answers.Answer.{Answer};
 ghost use Rattle.cut_class.specs.declared.class.Class.{Class};
 ghost use Rattle.cut_class.specs.declared.class.Class.TheVariants.{Whole};
@@ -27,10 +26,7 @@ ghost use Rattle.boot_cuts.specs.Classing.{class_of};
 ghost use Rattle.boot_cuts.specs.Contents.{cut_content, cut_contents};
 ghost use Rattle.boot_tape.specs.Playing.{cut_in};
 ghost use Rattle.boot_cuts.specs.Replaying.{replay_of};
-ghost use Rattle.boot_tape.specs.Traces.{Traced, event_moves, event_steps, moves_in, note_of, noted, own_moves, own_steps, traced, traced_from};
-ghost use Rattle.boot_tape.specs.CutMoves.{cut_moves};
-ghost use Rattle.boot_tape.specs.Doers.{doers, is_own_whole};
-ghost use Rattle.boot_machine.specs.Moves.{armed_for};
+ghost use Rattle.boot_tape.specs.Traces.{Traced, event_steps, traced, traced_from};
 ghost use Rattle.boot_cuts.specs.Runs.{AreRuns, runs_of};
 ghost use Rattle.boot_cuts.specs.Tears.{IsLeftTorn, is_left_torn, left_torn};
 ghost use Rattle.boot_cuts.specs.Told.{AreAnswers};

@@ -1,6 +1,6 @@
 //! Worked examples of what a member looks at.
 
-ghost use Rattle.std.specs.Prelude.{◌≡◌, ◌∷◌, ◌++◌, [], Err, None, Ok, Some, false, replicate, true};
+ghost use Rattle.std.specs.Prelude.{◌≡◌, ◌∷◌, [], Err, None, Ok, Some, false, true};
 ghost use Rattle.cut_class.specs.declared.class.Class.TheVariants.{Finished};
 ghost use Rattle.image_check.specs.declared.why.Why.TheVariants.{NoBlock};
 ghost use Rattle.check_counts.specs.Examples.{seen_so};

@@ -1,6 +1,6 @@
 //! Worked texts: the lines in their order.
 
-ghost use Rattle.std.specs.Prelude.{◌≡◌, ◌∷◌, ◌++◌, [], Err, None, Ok, Some, codes, false, true};
+ghost use Rattle.std.specs.Prelude.{◌≡◌, ◌∷◌, ◌++◌, [], Err, Ok, Some, codes, false, true};
 ghost use Rattle.cut_class.specs.declared.class.Class.TheVariants.{Finished, Former};
 ghost use Rattle.image_check.specs.declared.why.Why.TheVariants.{NoBlock};
 ghost use Rattle.check_counts.specs.Examples.{seen_so};
