@@ -8,6 +8,7 @@ pub mod OwnLeftLemmas
 mod OwnPickLemmas
 pub mod OwnDecisionLemmas
 pub mod OwnLaws
+pub mod PartLemmas
 pub mod ExampleLemmas
 pub mod ChosenLemmas
 pub mod RunLemmas

@@ -95,9 +95,12 @@ not-apart w some (inl before) = omega arith
 not-apart w some (inr behind) = omega arith
 
 module _ (c : Content) (cpu : Cpu) (choice : Choice) (right : IsContent c) (placed : IsPlacedIn c choice.image.window)
-    (u : SlotUnit) (of : IsOfUnit c cpu choice u) (listed : AreRollbackRows choice.image.rows.items)
-    (before : List Step)
-    (keeps : KeepsOtherRows c cpu u (before ++ (other_erase c cpu choice ++ image_raises c.otp choice.image))) where
+    (u : SlotUnit) (of : IsOfUnit c cpu choice u) (listed : AreRollbackRows choice.image.rows.items) where
+  -- the rows that images of other boot units list have the count that they had
+  pub record KeepsCounts (x : Content) : Type 0 where
+    pub same : (i : ℕ) (v : SlotUnit) (m : Member) (w : Window) (s : Started) → slice_get (boot_units_in c cpu) i ≡ Some v
+        → v ≢ u → member_window m v ≡ Some w → Valid c w cpu false s → count x.otp s.rows.items ≡ count c.otp s.rows.items
+
   -- the members of another boot unit
   other-unit : (i : ℕ) (v : SlotUnit) → i ≢ of.place → slice_get (boot_units_in c cpu) i ≡ Some v → (w : Window)
       → IsMember v w → (x : Window) → IsMember u x → AreApart x w
@@ -116,7 +119,7 @@ module _ (c : Content) (cpu : Cpu) (choice : Choice) (right : IsContent c) (plac
       choice.image.window started-member)
 
   -- the images of another boot unit, where what is left is known
-  module _ (x : Content) (left : IsLeft c choice x) where
+  module _ (x : Content) (left : IsLeft c choice x) (keeps : KeepsCounts x) where
     window-same : (i : ℕ) (v : SlotUnit) → i ≢ of.place → slice_get (boot_units_in c cpu) i ≡ Some v → (m : Member)
         → (w : Window) → member_window m v ≡ Some w → images_in x cpu w false ≡ images_in c cpu w false
     window-same i v differ at m w stands = go (images_in c cpu w false) refl
@@ -132,13 +135,7 @@ module _ (c : Content) (cpu : Cpu) (choice : Choice) (right : IsContent c) (plac
         not s valid =
             let was = not-below in_flash w cpu false c.otp (window_bytes c w) s valid in
             let same : count x.otp s.rows.items ≡ count c.otp s.rows.items =
-            count-kept c x choice.image right listed left.rows s.rows.items
-            (λ r row bits among raised.
-            keeps.apart i v m w s r row bits at (unit-differs i v differ at) stands valid among
-            (Contains-append_right before (other_erase c cpu choice ++ image_raises c.otp choice.image) (Raise row bits)
-            (Contains-append_right (other_erase c cpu choice) (image_raises c.otp choice.image) (Raise row bits)
-            raised)))
-            in
+            keeps.same i v m w s at (unit-differs i v differ at) stands valid in
             record {
               version = subst (λ n. IfSome s.rollback (λ v. n ≤ v)) (sym same) was.version;
               required = λ is. was.required (sym (required-stays c x choice.image right listed left.rows) ∙ is);
@@ -191,10 +188,10 @@ module _ (c : Content) (cpu : Cpu) (choice : Choice) (right : IsContent c) (plac
       (slot_size-stays c x choice.image right listed left.rows (length c.flash)))
 
   -- where the unit takes what it took before
-  pub decision-kept : (d : Content) → IsLeft c choice d → table_in d ≡ table_in c
+  pub decision-stays : (d : Content) → IsLeft c choice d → KeepsCounts d → table_in d ≡ table_in c
       → unit_choice (images_in d cpu) u None ≡ unit_choice (images_in c cpu) u None
       → decision_in d cpu Normal ≡ decision_in c cpu Normal
-  decision-kept d left table same =
+  decision-stays d left keeps table same =
       decision-left d left table
       ∙ ap (λ o. if flash_off c.otp then Bootsel FlashOff else decision_of o)
       (ordered-same (images_in c cpu) (images_in d cpu) (boot_units_in c cpu) each)
@@ -207,19 +204,19 @@ module _ (c : Content) (cpu : Cpu) (choice : Choice) (right : IsContent c) (plac
             (let is : u ≡ v = same_Some u v (sym of.tried ∙ ap (slice_get (boot_units_in c cpu)) (sym here) ∙ at) in
             subst (λ (w : SlotUnit). unit_choice (images_in d cpu) w None ≡ unit_choice (images_in c cpu) w None) is
             same)
-        | inr differ ↦ unit-same d left i v differ at
+        | inr differ ↦ unit-same d left keeps i v differ at
       ]
 
-  -- where it takes what it takes after all steps
-  pub decision-settled : (d z : Content) (x : Choice) → IsLeft c choice d → IsLeft c choice z
-      → table_in d ≡ table_in c → table_in z ≡ table_in c → unit_choice (images_in d cpu) u None ≡ Some x
+  -- where it takes what it takes after the steps
+  pub decision-ends : (d z : Content) (x : Choice) → IsLeft c choice d → KeepsCounts d → IsLeft c choice z
+      → KeepsCounts z → table_in d ≡ table_in c → table_in z ≡ table_in c → unit_choice (images_in d cpu) u None ≡ Some x
       → unit_choice (images_in z cpu) u None ≡ Some x
       → (decision_in d cpu Normal ≡ decision_in c cpu Normal)
       ⊎ ((decision_in d cpu Normal ≡ Start x) × (decision_in z cpu Normal ≡ Start x))
-  decision-settled d z x left done table same_table second third =
+  decision-ends d z x left keeps done ends table same_table second third =
       go (flash_off c.otp) (decision-left d left table) (decision-left z done same_table) (decision-is c)
       (ordered-but (images_in c cpu) (images_in d cpu) (images_in z cpu) (boot_units_in c cpu) of.place u x of.tried
-      (λ i v differ at. (unit-same d left i v differ at, unit-same z done i v differ at)) second third)
+      (λ i v differ at. (unit-same d left keeps i v differ at, unit-same z done ends i v differ at)) second third)
     where
       go : (off : Bool) → decision_in d cpu Normal ≡ decide off (boot_units_in c cpu) (images_in d cpu)
           → decision_in z cpu Normal ≡ decide off (boot_units_in c cpu) (images_in z cpu)
@@ -233,3 +230,30 @@ module _ (c : Content) (cpu : Cpu) (choice : Choice) (right : IsContent c) (plac
       go true one two former either = inl (one ∙ sym former)
       go false one two former (inl same) = inl (one ∙ ap decision_of same ∙ sym former)
       go false one two former (inr both) = inr (one ∙ ap decision_of both.0, two ∙ ap decision_of both.1)
+
+  -- where no raise of the whole list is of a row in the triple of a row that another unit's image lists
+  module _ (before : List Step)
+      (keeps : KeepsOtherRows c cpu u (before ++ (other_erase c cpu choice ++ image_raises c.otp choice.image))) where
+    counts-kept : (x : Content) → IsLeft c choice x → KeepsCounts x
+    counts-kept x left = record {
+      same = λ i v m w s at differ stands valid.
+          count-kept c x choice.image right listed left.rows s.rows.items
+          (λ r row bits among raised.
+          keeps.apart i v m w s r row bits at differ stands valid among
+          (Contains-append_right before (other_erase c cpu choice ++ image_raises c.otp choice.image) (Raise row bits)
+          (Contains-append_right (other_erase c cpu choice) (image_raises c.otp choice.image) (Raise row bits)
+          raised)));
+    }
+
+    pub decision-kept : (d : Content) → IsLeft c choice d → table_in d ≡ table_in c
+        → unit_choice (images_in d cpu) u None ≡ unit_choice (images_in c cpu) u None
+        → decision_in d cpu Normal ≡ decision_in c cpu Normal
+    decision-kept d left table same = decision-stays d left (counts-kept d left) table same
+
+    pub decision-settled : (d z : Content) (x : Choice) → IsLeft c choice d → IsLeft c choice z
+        → table_in d ≡ table_in c → table_in z ≡ table_in c → unit_choice (images_in d cpu) u None ≡ Some x
+        → unit_choice (images_in z cpu) u None ≡ Some x
+        → (decision_in d cpu Normal ≡ decision_in c cpu Normal)
+        ⊎ ((decision_in d cpu Normal ≡ Start x) × (decision_in z cpu Normal ≡ Start x))
+    decision-settled d z x left done table same_table second third =
+        decision-ends d z x left (counts-kept d left) done (counts-kept z done) table same_table second third

@@ -14,6 +14,7 @@ use Rattle.pico_board.specs.Content.{AreApart, Content, IsContent, window_bytes}
 use Rattle.pico_board.specs.Sessions.{Confined, IsConfined}
 use Rattle.pico_board.specs.Steps.{IsCutAt, IsRaise, MayLeave, after_all}
 use Rattle.pico_board.proofs.CuttingLemmas.{CutOf-from}
+use Rattle.pico_board.proofs.StepLemmas.{after_all-append}
 use Rattle.image_def.specs.declared.started.Started.{Started}
 use Rattle.otp_roll.specs.Flags.{slot_size}
 use Rattle.otp_roll.specs.Rows.{AreRollbackRows, AreRowsApart, IsOutside, IsRollbackVersion}
@@ -52,14 +53,14 @@ use Rattle.boot_rules.proofs.SameUnitLemmas.{table-same}
 use Rattle.law_boot_cuts.proofs.LeftRowLemmas.{image-raises}
 use Rattle.law_boot_cuts.proofs.OwnDecisionLemmas.{decision-kept, decision-settled}
 use Rattle.law_boot_cuts.proofs.OwnLeftLemmas.{IsLeft, own-left, slot_size-stays}
-use Rattle.law_boot_cuts.proofs.OwnPickLemmas.{TakesSettled, cut-first, cut-taken, done-taken, none-found}
+use Rattle.law_boot_cuts.proofs.OwnPickLemmas.{TakesSettled, cut-first, cut-taken, done-taken, none-found, raised-taken}
 use Rattle.law_boot_cuts.proofs.OwnStepLemmas.{all-there, clearing-confined, erase-cases, first-confined}
 use Rattle.law_boot_cuts.proofs.OwnWindowLemmas.{clears-window}
 use Rattle.law_boot_cuts.proofs.PairLemmas.{IsBeaten, absent, beaten}
 use Rattle.law_boot_cuts.proofs.RaisesCutLemmas.{plain-steps}
 
 -- the steps before the erase, what they leave in the image's window, and what that held before
-record IsOwnList (c : Content) (cpu : Cpu) (choice : Choice) (steps : List Step) : Type 0 where
+pub record IsOwnList (c : Content) (cpu : Cpu) (choice : Choice) (steps : List Step) : Type 0 where
   pub updated : choice.updated ≡ true
   pub before : List Step
   pub whole : steps ≡ before ++ (other_erase c cpu choice ++ image_raises c.otp choice.image)
@@ -93,22 +94,22 @@ module _ (c : Content) (cpu : Cpu) (kind : BootKind) (choice : Choice) (right : 
   held : Valid c W cpu true choice.image
   held = start-valid c cpu kind choice h
 
-  placed : IsPlacedIn c W
+  pub placed : IsPlacedIn c W
   placed = start-placed c cpu kind choice right h
 
-  others : (w : Window) → choice.other ≡ Some w → IsPlacedIn c w × AreApart W w
+  pub others : (w : Window) → choice.other ≡ Some w → IsPlacedIn c w × AreApart W w
   others = start-other c cpu kind choice right h
 
-  listed : AreRollbackRows choice.image.rows.items
+  pub listed : AreRollbackRows choice.image.rows.items
   listed = valid-rows c W cpu true choice.image held
 
-  version : IfSome choice.image.rollback (λ v. IsRollbackVersion v choice.image.rows.items)
+  pub version : IfSome choice.image.rollback (λ v. IsRollbackVersion v choice.image.rows.items)
   version = valid-version c W cpu true choice.image held
 
-  not : NotBelow c.otp choice.image
+  pub not : NotBelow c.otp choice.image
   not = chosen-not_below c cpu kind choice h
 
-  inside : W.start + W.len ≤ length c.flash
+  pub inside : W.start + W.len ≤ length c.flash
   inside = let i = placed.inside in let whole = right.flash_length.whole in omega (arith, i, whole)
 
   -- the writes of an updated start of an image that is no trial
@@ -182,7 +183,7 @@ module _ (c : Content) (cpu : Cpu) (kind : BootKind) (choice : Choice) (right : 
       go false f = cc
 
   -- the steps are such a list, or there are none
-  own-list : (steps : List Step) → AreOwnSteps c cpu choice steps → IsOwnList c cpu choice steps ⊎ (steps ≡ [])
+  pub own-list : (steps : List Step) → AreOwnSteps c cpu choice steps → IsOwnList c cpu choice steps ⊎ (steps ≡ [])
   own-list steps (inr (trial, is)) = inl (subst (IsOwnList c cpu choice) (sym is) (buy-list trial))
   own-list steps (inl (updated, is)) = go choice.image.trial refl
     where
@@ -249,7 +250,7 @@ module _ (c : Content) (cpu : Cpu) (kind : BootKind) (choice : Choice) (right : 
   image-listed None row bits among = absurd (none-among row bits among)
   image-listed (Some v) row bits among = raises-listed c.otp choice.image.rows.items v row bits among
 
-  raised-listed : (steps : List Step) → AreOwnSteps c cpu choice steps → (row bits : ℕ)
+  pub raised-listed : (steps : List Step) → AreOwnSteps c cpu choice steps → (row bits : ℕ)
       → Contains steps (Raise row bits) → (q : ℕ) × Contains choice.image.rows.items q × ¬ (IsOutside row q)
   raised-listed steps are row bits among = elim (own-list steps are) [
     | inl own ↦
@@ -266,7 +267,7 @@ module _ (c : Content) (cpu : Cpu) (kind : BootKind) (choice : Choice) (right : 
     | inr none ↦ absurd (none-among row bits (subst (λ xs. Contains xs (Raise row bits)) none among))
   ]
 
-  outside-apart : (row r q : ℕ) → AreRowsApart r q → ¬ (IsOutside row q) → IsOutside row r
+  pub outside-apart : (row r q : ℕ) → AreRowsApart r q → ¬ (IsOutside row q) → IsOutside row r
   outside-apart row r q apart is = elim (cases_lt row r) [
     | inl below ↦ inl below
     | inr from ↦
@@ -288,7 +289,7 @@ module _ (c : Content) (cpu : Cpu) (kind : BootKind) (choice : Choice) (right : 
   }
 
   -- what own steps leave
-  left-list : (steps : List Step) → IsOwnList c cpu choice steps → (d : Content) → MayLeave c steps d
+  pub left-list : (steps : List Step) → IsOwnList c cpu choice steps → (d : Content) → MayLeave c steps d
       → IsLeft c choice d
   left-list steps own d left =
       own-left c cpu choice right placed others own.updated own.before own.confined d
@@ -350,7 +351,7 @@ module _ (c : Content) (cpu : Cpu) (kind : BootKind) (choice : Choice) (right : 
     ]
 
   module _ (u : SlotUnit) (of : IsOfUnit c cpu choice u) where
-    no-cut : {P : Type 0} (xs : List Step) (k : ℕ) (step : Step) → xs ≡ [] → slice_get xs k ≡ Some step → P
+    pub no-cut : {P : Type 0} (xs : List Step) (k : ℕ) (step : Step) → xs ≡ [] → slice_get xs k ≡ Some step → P
     no-cut xs k step e at = none (sym (ap (λ ys. slice_get ys k) e) ∙ at)
       where
         none : {P : Type 0} → None ≡ Some step → P
@@ -369,36 +370,52 @@ module _ (c : Content) (cpu : Cpu) (kind : BootKind) (choice : Choice) (right : 
     Taken d z = (taken d cpu u ≡ taken c cpu u)
         ⊎ ((taken d cpu u ≡ Some (settled_choice choice)) × SameImage d z (bought choice.image) cpu)
 
-    abbrev Settled : (steps : List Step) → IsOwnList c cpu choice steps → Content → Type 0
-    Settled steps own d =
-        TakesSettled c cpu choice right placed others own.updated own.before own.confined u of listed version not
-        own.mid d
+    -- the steps come to z: those before the raises are done, and these in part or whole
+    abbrev pub ComesTo : (steps : List Step) → IsOwnList c cpu choice steps → Content → Type 0
+    ComesTo steps own z =
+        MayLeave (after_all (after_all c own.before) (other_erase c cpu choice)) (image_raises c.otp choice.image) z
+
+    all-come : (steps : List Step) (own : IsOwnList c cpu choice steps) → ComesTo steps own (after_all c steps)
+    all-come steps own =
+        inl (ap (after_all c) own.whole
+        ∙ (after_all-append c own.before (other_erase c cpu choice ++ image_raises c.otp choice.image)
+        ∙ after_all-append (after_all c own.before) (other_erase c cpu choice) (image_raises c.otp choice.image)))
+
+    pub end-taken : (steps : List Step) (own : IsOwnList c cpu choice steps) (z : Content) → ComesTo steps own z
+        → taken z cpu u ≡ Some (settled_choice choice)
+    end-taken steps own z end =
+        raised-taken c cpu choice right placed others own.updated own.before own.confined u of listed version not own.mid
+        z end
+
+    pub end-cut : (steps : List Step) (own : IsOwnList c cpu choice steps) (z : Content) → ComesTo steps own z → (k : ℕ)
+        (step : Step) (d : Content) → IsCutAt c steps k step d → LeavesNoAccidentalImage c z d cpu choice step → Taken d z
+    end-cut steps own z end k step d at no_accident =
+        plainly (cut-taken c cpu choice right placed others own.updated own.before own.confined u of listed version not
+        own.mid z end own.was first k step d (subst (λ xs. IsCutAt c xs k step d) own.whole at) no_accident)
+      where
+        Settled : Content → Type 0
+        Settled x =
+            TakesSettled c cpu choice right placed others own.updated own.before own.confined u of listed version not
+            own.mid z end x
+
+        first : (j : ℕ) (step : Step) (x : Content) → IsCutAt c own.before j step x
+            → LeavesNoAccidentalImage c z x cpu choice step → (taken x cpu u ≡ taken c cpu u) ⊎ Settled x
+        first j step x at no_accident = elim own.first [
+          | inl none ↦ no-cut own.before j step none at.stands
+          | inr unheld ↦
+              cut-first c cpu choice right placed others own.updated own.before own.confined u of listed version not
+              own.mid z end own.was unheld j step x at no_accident
+        ]
+
+        plainly : (taken d cpu u ≡ taken c cpu u) ⊎ Settled d → Taken d z
+        plainly (inl same) = inl same
+        plainly (inr s) = inr (s.here, s.same)
 
     list-cut : (steps : List Step) → IsOwnList c cpu choice steps → (k : ℕ) (step : Step) (d : Content)
         → IsCutAt c steps k step d
         → LeavesNoAccidentalImage c (after_all c steps) d cpu choice step → Taken d (after_all c steps)
     list-cut steps own k step d at no_accident =
-        subst (λ xs. Taken d (after_all c xs)) (sym own.whole)
-        (plainly (cut-taken c cpu choice right placed others own.updated own.before own.confined u of listed version not
-        own.mid own.was first k step d (subst (λ xs. IsCutAt c xs k step d) own.whole at)
-        (subst (λ xs. LeavesNoAccidentalImage c (after_all c xs) d cpu choice step) own.whole no_accident)))
-      where
-        first : (j : ℕ) (step : Step) (e : Content) → IsCutAt c own.before j step e
-            → LeavesNoAccidentalImage c
-            (after_all c (own.before ++ (other_erase c cpu choice ++ image_raises c.otp choice.image))) e cpu choice
-            step
-            → (taken e cpu u ≡ taken c cpu u) ⊎ Settled steps own e
-        first j step e at no_accident = elim own.first [
-          | inl none ↦ no-cut own.before j step none at.stands
-          | inr unheld ↦
-              cut-first c cpu choice right placed others own.updated own.before own.confined u of listed version not
-              own.mid own.was unheld j step e at no_accident
-        ]
-
-        plainly : (taken d cpu u ≡ taken c cpu u) ⊎ Settled steps own d
-            → Taken d (after_all c (own.before ++ (other_erase c cpu choice ++ image_raises c.otp choice.image)))
-        plainly (inl same) = inl same
-        plainly (inr s) = inr (s.here, s.same)
+        end-cut steps own (after_all c steps) (all-come steps own) k step d at no_accident
 
     abbrev picked : Option Choice → Option Started
     picked o = option_map (λ (x : Choice). x.image) o

@@ -1,5 +1,5 @@
 -- What is taken of the started image's unit where power is lost in a start's or a buy's writes.
-use Rattle.std.proofs.Common.{◌≡◌, ◌⊎◌, ℕ, ◌+◌, ◌/◌, ◌≤◌, true, false, List, ◌++◌, length, Option, Some, None, refl, sym, ap, ◌∙◌, subst, arith, inl, inr, option_and_then}
+use Rattle.std.proofs.Common.{◌≡◌, ◌⊎◌, ℕ, ◌+◌, ◌/◌, ◌≤◌, true, false, Bool, List, ◌++◌, length, Option, Some, None, refl, sym, ap, ◌∙◌, subst, arith, inl, inr, option_and_then}
 use Rattle.std.specs.Prelude.{IfSome}
 use Rattle.std.specs.Result.{result_ok}
 use Rattle.pico_board.specs.declared.Step.{Step}
@@ -38,7 +38,7 @@ use Rattle.law_boot_cuts.proofs.LeftImageLemmas.{image-back, image-kept}
 use Rattle.law_boot_cuts.proofs.OwnLeftLemmas.{EraseLeft, IsLeft, erase-left, erased, kept, left-raises, own-not_below, raises-bytes, rows-rise}
 use Rattle.law_boot_cuts.proofs.OwnStepLemmas.{Erases, Keeps, all-there, cut-parts, erase-cases, first-confined}
 use Rattle.law_boot_cuts.proofs.OwnWindowLemmas.{erased-window}
-use Rattle.law_boot_cuts.proofs.PairLemmas.{IsBeaten, IsWorse, beaten, choice-pair, no_image, not_better, pair_choice, takes-mine, takes-other}
+use Rattle.law_boot_cuts.proofs.PairLemmas.{IsBeaten, IsWorse, absent, beaten, choice-pair, no_image, not_better, pair_choice, takes-mine, takes-other}
 
 -- a window without an image
 pub none-found : (d : Content) (cpu : Cpu) (w : Window) → HasNoImage d w cpu → images_in d cpu w false ≡ None
@@ -80,8 +80,8 @@ module _ (c : Content) (cpu : Cpu) (choice : Choice) (right : IsContent c) (plac
   abbrev R : List Step
   R = image_raises c.otp choice.image
 
-  abbrev pub z : Content
-  z = after_all c (before ++ (other_erase c cpu choice ++ image_raises c.otp choice.image))
+  abbrev all : Content
+  all = after_all c (before ++ (other_erase c cpu choice ++ image_raises c.otp choice.image))
 
   abbrev mine : Content → Option Started
   mine x = images_in x cpu W false
@@ -175,161 +175,216 @@ module _ (c : Content) (cpu : Cpu) (choice : Choice) (right : IsContent c) (plac
     raised-taken = takes-settled x (valid-found x cpu W false B raised-valid) raised-worse
 
   -- after all steps
-  pub all-done : MayLeave x1 R z
+  pub all-done : MayLeave x1 R all
   all-done = inl (after_all-append c before (other_erase c cpu choice ++ R)
       ∙ after_all-append x0 (other_erase c cpu choice) R)
 
-  pub done-taken : taken z cpu u ≡ Some (settled_choice choice)
-  done-taken = raised-taken z all-done
+  pub done-taken : taken all cpu u ≡ Some (settled_choice choice)
+  done-taken = raised-taken all all-done
 
-  pub done-valid : Valid z W cpu false B
-  done-valid = raised-valid z all-done
+  -- the images of the other window stay where the image's window alone is written
+  theirs-same : (x : Content) → SameButWindow W c x → theirs x ≡ theirs c
+  theirs-same x same = by_other choice.other refl
+    where
+      by_other : (o : Option Window) → choice.other ≡ o
+          → option_and_then (λ w. images_in x cpu w false) o ≡ option_and_then (λ w. images_in c cpu w false) o
+      by_other None e = refl
+      by_other (Some w) e =
+          ap result_ok (image-local x c w cpu false
+          (window_bytes-apart c x W w same.outside (others w e).1) same.rows)
 
-  -- d takes what z takes, with the same bytes
-  pub record TakesSettled (d : Content) : Type 0 where
-    pub here : taken d cpu u ≡ Some (settled_choice choice)
-    pub same : SameImage d z B cpu
+  -- d takes what e takes, with the same bytes
+  pub record TakesTheEnd (d e : Content) : Type 0 where
+    pub start : Choice
+    pub here : taken d cpu u ≡ Some start
+    pub after : taken e cpu u ≡ Some start
+    pub same : SameImage d e start.image cpu
 
-  settles : (d : Content) → window_bytes d W ≡ window_bytes x0 W → Valid d W cpu false B → IsWorse m B (theirs d)
-      → TakesSettled d
-  settles d bytes valid worse = record {
-    here = takes-settled d (valid-found d cpu W false B valid) worse;
-    same = same-image d z B cpu (valid-holds d W cpu false B valid) (bytes ∙ sym (own-bytes z all-done));
-  }
+  -- power is lost in the first steps of the rewrite of the sector of the trial bit of an image that a normal boot does
+  -- not take, and e is what these steps leave
+  pub rewrite-taken : mine c ≡ None → (d e : Content) → SameButWindow W c d → SameButWindow W c e
+      → HasNoImage d W cpu ⊎ ((s : Started) × IsKnownImage c e d W cpu s)
+      → (taken d cpu u ≡ taken c cpu u) ⊎ TakesTheEnd d e
+  rewrite-taken unheld d e same done (inl none) =
+      inl (taken-by d None (theirs c) (none-found d cpu W none) (theirs-same d same)
+      ∙ sym (taken-by c None (theirs c) unheld refl))
+  rewrite-taken unheld d e same done (inr known) = by_known known.0 known.1.valid known.1.known
+    where
+      by_known : (s : Started) → Valid d W cpu false s → IsSameImageIn c d W cpu s ⊎ IsSameImageIn e d W cpu s
+          → (taken d cpu u ≡ taken c cpu u) ⊎ TakesTheEnd d e
+      by_known s v (inl former) = some-none (mine c) s (valid-found c cpu W false s former.valid) unheld
+      by_known s v (inr later) = by_image (theirs c) refl
+        where
+          now : (o : Option Started) → theirs c ≡ o → taken d cpu u ≡ pair_choice m u (Some s) o
+          now o is = taken-by d (Some s) o (valid-found d cpu W false s v) (theirs-same d same ∙ is)
 
-  -- what was taken before, where the other image is better
-  module _ (was : (t : Started) → is_other_better m choice.image.version t.version ≡ true → IsBeaten m (mine c) t) where
-    other-taken : (d : Content) (e : Erases c cpu choice) → theirs d ≡ Some e.image → IsBeaten m (mine d) e.image
-        → taken d cpu u ≡ taken c cpu u
-    other-taken d e second beats =
-        taken-by d (mine d) (Some e.image) refl second ∙ takes-other m u (mine d) e.image beats
-        ∙ sym (taken-by c (mine c) (Some e.image) refl
-        (other-there c e.window e.other ∙ valid-found c cpu e.window false e.image e.valid)
-        ∙ takes-other m u (mine c) e.image (was e.image e.better))
+          ends : (o : Option Started) → theirs c ≡ o → IsWorse m s o → (taken d cpu u ≡ taken c cpu u) ⊎ TakesTheEnd d e
+          ends o is worse = inr (record {
+            start = choice_of u m false s;
+            here = now o is ∙ takes-mine m u s o worse;
+            after = taken-by e (Some s) o (valid-found e cpu W false s later.valid) (theirs-same e done ∙ is)
+                ∙ takes-mine m u s o worse;
+            same = later.same;
+          })
 
-    -- power is lost in the erase
-    cut-erase : (j : ℕ) (step : Step) (d : Content) → IsCutAt x0 (other_erase c cpu choice) j step d
-        → LeavesNoAccidentalImage c z d cpu choice step → (taken d cpu u ≡ taken c cpu u) ⊎ TakesSettled d
-    cut-erase j step d at no_accident =
-        by_erase (erase-left c cpu choice right placed others updated before confined d (inr cut))
-      where
-        cut : CutOf x0 (other_erase c cpu choice) d
-        cut = CutOf-from x0 (other_erase c cpu choice) d (j, step, at)
+          by_version : (t : Started) → theirs c ≡ Some t → (better : Bool)
+              → is_other_better m s.version t.version ≡ better → (taken d cpu u ≡ taken c cpu u) ⊎ TakesTheEnd d e
+          by_version t is false not = ends (Some t) is (not_better t refl not)
+          by_version t is true better =
+              inl (now (Some t) is ∙ takes-other m u (Some s) t (beaten s refl better)
+              ∙ sym (taken-by c None (Some t) unheld is ∙ takes-other m u None t (absent refl)))
 
-        by_erase : EraseLeft c cpu choice right placed others updated before confined d
-            → (taken d cpu u ≡ taken c cpu u) ⊎ TakesSettled d
-        by_erase (kept k same) = absurd (subst (λ steps. CutOf x0 steps d) k.none cut)
-        by_erase (erased e same way) = by_images (no_accident e.window (inr e.other) inside).image
-          where
-            inside : IsConfined e.window step
-            inside = all-there (IsConfined e.window) (other_erase c cpu choice) j step
-                (subst (λ steps. Confined steps e.window) (sym e.steps)
-                (first-confined _ e.window (others e.window e.other).0)) at.stands
+          by_image : (o : Option Started) → theirs c ≡ o → (taken d cpu u ≡ taken c cpu u) ⊎ TakesTheEnd d e
+          by_image None is = ends None is (no_image refl)
+          by_image (Some t) is = by_version t is (is_other_better m s.version t.version) refl
 
-            bytes : window_bytes d W ≡ window_bytes x0 W
-            bytes = window_bytes-apart x0 d e.window W same.outside (apart_sym W e.window (others e.window e.other).1)
+  -- what the steps come to: all, or those before the raises and some of these
+  module _ (z : Content) (end : MayLeave x1 R z) where
+    -- d takes what z takes, with the same bytes
+    pub record TakesSettled (d : Content) : Type 0 where
+      pub here : taken d cpu u ≡ Some (settled_choice choice)
+      pub same : SameImage d z B cpu
 
-            rows : d.otp ≡ c.otp
-            rows = same.rows ∙ (confined-after_all c W before confined).rows
+    settles : (d : Content) → window_bytes d W ≡ window_bytes x0 W → Valid d W cpu false B → IsWorse m B (theirs d)
+        → TakesSettled d
+    settles d bytes valid worse = record {
+      here = takes-settled d (valid-found d cpu W false B valid) worse;
+      same = same-image d z B cpu (valid-holds d W cpu false B valid) (bytes ∙ sym (own-bytes z end));
+    }
 
-            valid : Valid d W cpu false B
-            valid = image-kept x0 d W cpu false B bytes
-                (bought-not_below d.otp choice.image (subst (λ otp. NotBelow otp choice.image) (sym rows) not)) mid
+    -- what was taken before, where the other image is better
+    module _ (was : (t : Started) → is_other_better m choice.image.version t.version ≡ true → IsBeaten m (mine c) t) where
+      other-taken : (d : Content) (e : Erases c cpu choice) → theirs d ≡ Some e.image → IsBeaten m (mine d) e.image
+          → taken d cpu u ≡ taken c cpu u
+      other-taken d e second beats =
+          taken-by d (mine d) (Some e.image) refl second ∙ takes-other m u (mine d) e.image beats
+          ∙ sym (taken-by c (mine c) (Some e.image) refl
+          (other-there c e.window e.other ∙ valid-found c cpu e.window false e.image e.valid)
+          ∙ takes-other m u (mine c) e.image (was e.image e.better))
 
-            found : (s : Started) → Valid c e.window cpu false s → s ≡ e.image
-            found s v = one-image in_flash e.window cpu false c.otp (window_bytes c e.window) s e.image v e.valid
+      -- power is lost in the erase
+      cut-erase : (j : ℕ) (step : Step) (d : Content) → IsCutAt x0 (other_erase c cpu choice) j step d
+          → LeavesNoAccidentalImage c z d cpu choice step → (taken d cpu u ≡ taken c cpu u) ⊎ TakesSettled d
+      cut-erase j step d at no_accident =
+          by_erase (erase-left c cpu choice right placed others updated before confined d (inr cut))
+        where
+          cut : CutOf x0 (other_erase c cpu choice) d
+          cut = CutOf-from x0 (other_erase c cpu choice) d (j, step, at)
 
-            by_known : (s : Started) → Valid d e.window cpu false s
-                → IsSameImageIn c d e.window cpu s ⊎ IsSameImageIn z d e.window cpu s
-                → (taken d cpu u ≡ taken c cpu u) ⊎ TakesSettled d
-            by_known s v (inl former) =
-                inl (other-taken d e
-                (other-there d e.window e.other ∙ valid-found d cpu e.window false s v
-                ∙ ap Some (found s former.valid))
-                (beaten B (valid-found d cpu W false B valid) e.better))
-            by_known s v (inr later) =
-                some-none (images_in z cpu e.window false) s (valid-found z cpu e.window false s later.valid)
-                (erased-none-there z all-done e)
+          by_erase : EraseLeft c cpu choice right placed others updated before confined d
+              → (taken d cpu u ≡ taken c cpu u) ⊎ TakesSettled d
+          by_erase (kept k same) = absurd (subst (λ steps. CutOf x0 steps d) k.none cut)
+          by_erase (erased e same way) = by_images (no_accident e.window (inr e.other) inside).image
+            where
+              inside : IsConfined e.window step
+              inside = all-there (IsConfined e.window) (other_erase c cpu choice) j step
+                  (subst (λ steps. Confined steps e.window) (sym e.steps)
+                  (first-confined _ e.window (others e.window e.other).0)) at.stands
 
-            by_images : HasNoImage d e.window cpu ⊎ ((s : Started) × IsKnownImage c z d e.window cpu s)
-                → (taken d cpu u ≡ taken c cpu u) ⊎ TakesSettled d
-            by_images (inl none) =
-                inr (settles d bytes valid
-                (no_image (other-there d e.window e.other ∙ none-found d cpu e.window none)))
-            by_images (inr known) = by_known known.0 known.1.valid known.1.known
+              bytes : window_bytes d W ≡ window_bytes x0 W
+              bytes = window_bytes-apart x0 d e.window W same.outside (apart_sym W e.window (others e.window e.other).1)
 
-    -- power is lost in any step, where it is known what a cut before the erase leaves
-    pub cut-taken : ((k : ℕ) (step : Step) (d : Content) → IsCutAt c before k step d
-        → LeavesNoAccidentalImage c z d cpu choice step
-        → (taken d cpu u ≡ taken c cpu u) ⊎ TakesSettled d)
-        → (k : ℕ) (step : Step) (d : Content) → IsCutAt c (before ++ (other_erase c cpu choice ++ R)) k step d
-        → LeavesNoAccidentalImage c z d cpu choice step → (taken d cpu u ≡ taken c cpu u) ⊎ TakesSettled d
-    cut-taken first k step d at no_accident =
-        elim (cut-parts c before (other_erase c cpu choice ++ R) k step d at) [
-          | inl one ↦ first k step d one no_accident
-          | inr rest ↦
-              elim (cut-parts x0 (other_erase c cpu choice) R rest.0 step d rest.1) [
-                | inl two ↦ cut-erase rest.0 step d two no_accident
-                | inr three ↦
-                    (let left : MayLeave x1 R d = inr (CutOf-from x1 R d (three.0, step, three.1)) in
-                    inr (settles d (own-bytes d left) (raised-valid d left) (raised-worse d left)))
-              ]
-        ]
+              rows : d.otp ≡ c.otp
+              rows = same.rows ∙ (confined-after_all c W before confined).rows
 
-    -- power is lost in the rewrite of the sector of the trial bit of an image that a normal boot does not take
-    pub cut-first : mine c ≡ None → (k : ℕ) (step : Step) (d : Content) → IsCutAt c before k step d
-        → LeavesNoAccidentalImage c z d cpu choice step → (taken d cpu u ≡ taken c cpu u) ⊎ TakesSettled d
-    cut-first unheld k step d at no_accident = by_images (no_accident W (inl refl) inside).image
-      where
-        inside : IsConfined W step
-        inside = all-there (IsConfined W) before k step confined at.stands
+              valid : Valid d W cpu false B
+              valid = image-kept x0 d W cpu false B bytes
+                  (bought-not_below d.otp choice.image (subst (λ otp. NotBelow otp choice.image) (sym rows) not)) mid
 
-        same : SameButWindow W c d
-        same = confined-CutOf c W before d confined (CutOf-from c before d (k, step, at))
+              found : (s : Started) → Valid c e.window cpu false s → s ≡ e.image
+              found s v = one-image in_flash e.window cpu false c.otp (window_bytes c e.window) s e.image v e.valid
 
-        second : theirs d ≡ theirs c
-        second = by_other choice.other refl
-          where
-            by_other : (o : Option Window) → choice.other ≡ o
-                → option_and_then (λ w. images_in d cpu w false) o ≡ option_and_then (λ w. images_in c cpu w false) o
-            by_other None e = refl
-            by_other (Some w) e =
-                ap result_ok (image-local d c w cpu false
-                (window_bytes-apart c d W w same.outside (others w e).1) same.rows)
-
-        worse : Keeps c cpu choice → IsWorse m B (theirs d)
-        worse k = by_image (theirs c) refl
-          where
-            by_window : (o : Option Window) → choice.other ≡ o → (t : Started)
-                → option_and_then (λ w. images_in c cpu w false) o ≡ Some t
-                → is_other_better m choice.image.version t.version ≡ false
-            by_window None e t is = some-none None t is refl
-            by_window (Some w) e t is = k.worse w t e (found-valid c cpu w false t is)
-
-            by_image : (o : Option Started) → theirs c ≡ o → IsWorse m B (theirs d)
-            by_image None is = no_image (second ∙ is)
-            by_image (Some t) is = not_better t (second ∙ is) (by_window choice.other refl t is)
-
-        by_known : (s : Started) → Valid d W cpu false s → IsSameImageIn c d W cpu s ⊎ IsSameImageIn z d W cpu s
-            → (taken d cpu u ≡ taken c cpu u) ⊎ TakesSettled d
-        by_known s v (inl former) = some-none (mine c) s (valid-found c cpu W false s former.valid) unheld
-        by_known s v (inr later) =
-            let is : s ≡ B = one-image in_flash W cpu false z.otp (window_bytes z W) s B later.valid done-valid in
-            let here : mine d ≡ Some B = valid-found d cpu W false s v ∙ ap Some is in
-            elim (erase-cases c cpu choice updated) [
-              | inl k ↦ inr (record {
-                here = takes-settled d here (worse k);
-                same = subst (λ (t : Started). SameImage d z t cpu) is later.same;
-              })
-              | inr e ↦
+              by_known : (s : Started) → Valid d e.window cpu false s
+                  → IsSameImageIn c d e.window cpu s ⊎ IsSameImageIn z d e.window cpu s
+                  → (taken d cpu u ≡ taken c cpu u) ⊎ TakesSettled d
+              by_known s v (inl former) =
                   inl (other-taken d e
-                  (second ∙ other-there c e.window e.other ∙ valid-found c cpu e.window false e.image e.valid)
-                  (beaten B here e.better))
-            ]
+                  (other-there d e.window e.other ∙ valid-found d cpu e.window false s v
+                  ∙ ap Some (found s former.valid))
+                  (beaten B (valid-found d cpu W false B valid) e.better))
+              by_known s v (inr later) =
+                  some-none (images_in z cpu e.window false) s (valid-found z cpu e.window false s later.valid)
+                  (erased-none-there z end e)
 
-        by_images : HasNoImage d W cpu ⊎ ((s : Started) × IsKnownImage c z d W cpu s)
-            → (taken d cpu u ≡ taken c cpu u) ⊎ TakesSettled d
-        by_images (inl none) =
-            inl (taken-by d None (theirs c) (none-found d cpu W none) second
-            ∙ sym (taken-by c None (theirs c) unheld refl))
-        by_images (inr known) = by_known known.0 known.1.valid known.1.known
+              by_images : HasNoImage d e.window cpu ⊎ ((s : Started) × IsKnownImage c z d e.window cpu s)
+                  → (taken d cpu u ≡ taken c cpu u) ⊎ TakesSettled d
+              by_images (inl none) =
+                  inr (settles d bytes valid
+                  (no_image (other-there d e.window e.other ∙ none-found d cpu e.window none)))
+              by_images (inr known) = by_known known.0 known.1.valid known.1.known
+
+      -- power is lost in any step, where it is known what a cut before the erase leaves
+      pub cut-taken : ((k : ℕ) (step : Step) (d : Content) → IsCutAt c before k step d
+          → LeavesNoAccidentalImage c z d cpu choice step
+          → (taken d cpu u ≡ taken c cpu u) ⊎ TakesSettled d)
+          → (k : ℕ) (step : Step) (d : Content) → IsCutAt c (before ++ (other_erase c cpu choice ++ R)) k step d
+          → LeavesNoAccidentalImage c z d cpu choice step → (taken d cpu u ≡ taken c cpu u) ⊎ TakesSettled d
+      cut-taken first k step d at no_accident =
+          elim (cut-parts c before (other_erase c cpu choice ++ R) k step d at) [
+            | inl one ↦ first k step d one no_accident
+            | inr rest ↦
+                elim (cut-parts x0 (other_erase c cpu choice) R rest.0 step d rest.1) [
+                  | inl two ↦ cut-erase rest.0 step d two no_accident
+                  | inr three ↦
+                      (let left : MayLeave x1 R d = inr (CutOf-from x1 R d (three.0, step, three.1)) in
+                      inr (settles d (own-bytes d left) (raised-valid d left) (raised-worse d left)))
+                ]
+          ]
+
+      -- power is lost in the rewrite of the sector of the trial bit of an image that a normal boot does not take
+      pub cut-first : mine c ≡ None → (k : ℕ) (step : Step) (d : Content) → IsCutAt c before k step d
+          → LeavesNoAccidentalImage c z d cpu choice step → (taken d cpu u ≡ taken c cpu u) ⊎ TakesSettled d
+      cut-first unheld k step d at no_accident = by_images (no_accident W (inl refl) inside).image
+        where
+          inside : IsConfined W step
+          inside = all-there (IsConfined W) before k step confined at.stands
+
+          same : SameButWindow W c d
+          same = confined-CutOf c W before d confined (CutOf-from c before d (k, step, at))
+
+          second : theirs d ≡ theirs c
+          second = by_other choice.other refl
+            where
+              by_other : (o : Option Window) → choice.other ≡ o
+                  → option_and_then (λ w. images_in d cpu w false) o ≡ option_and_then (λ w. images_in c cpu w false) o
+              by_other None e = refl
+              by_other (Some w) e =
+                  ap result_ok (image-local d c w cpu false
+                  (window_bytes-apart c d W w same.outside (others w e).1) same.rows)
+
+          worse : Keeps c cpu choice → IsWorse m B (theirs d)
+          worse k = by_image (theirs c) refl
+            where
+              by_window : (o : Option Window) → choice.other ≡ o → (t : Started)
+                  → option_and_then (λ w. images_in c cpu w false) o ≡ Some t
+                  → is_other_better m choice.image.version t.version ≡ false
+              by_window None e t is = some-none None t is refl
+              by_window (Some w) e t is = k.worse w t e (found-valid c cpu w false t is)
+
+              by_image : (o : Option Started) → theirs c ≡ o → IsWorse m B (theirs d)
+              by_image None is = no_image (second ∙ is)
+              by_image (Some t) is = not_better t (second ∙ is) (by_window choice.other refl t is)
+
+          by_known : (s : Started) → Valid d W cpu false s → IsSameImageIn c d W cpu s ⊎ IsSameImageIn z d W cpu s
+              → (taken d cpu u ≡ taken c cpu u) ⊎ TakesSettled d
+          by_known s v (inl former) = some-none (mine c) s (valid-found c cpu W false s former.valid) unheld
+          by_known s v (inr later) =
+              let is : s ≡ B = one-image in_flash W cpu false z.otp (window_bytes z W) s B later.valid (raised-valid z end) in
+              let here : mine d ≡ Some B = valid-found d cpu W false s v ∙ ap Some is in
+              elim (erase-cases c cpu choice updated) [
+                | inl k ↦ inr (record {
+                  here = takes-settled d here (worse k);
+                  same = subst (λ (t : Started). SameImage d z t cpu) is later.same;
+                })
+                | inr e ↦
+                    inl (other-taken d e
+                    (second ∙ other-there c e.window e.other ∙ valid-found c cpu e.window false e.image e.valid)
+                    (beaten B here e.better))
+              ]
+
+          by_images : HasNoImage d W cpu ⊎ ((s : Started) × IsKnownImage c z d W cpu s)
+              → (taken d cpu u ≡ taken c cpu u) ⊎ TakesSettled d
+          by_images (inl none) =
+              inl (taken-by d None (theirs c) (none-found d cpu W none) second
+              ∙ sym (taken-by c None (theirs c) unheld refl))
+          by_images (inr known) = by_known known.0 known.1.valid known.1.known

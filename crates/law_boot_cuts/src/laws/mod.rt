@@ -3,7 +3,7 @@
 
 pub mod running;
 
-ghost use Rattle.std.specs.Prelude.{◌≡◌, ◌≢◌, ◌⊎◌, ◌↔◌, ℕ, Contains, List, None, Some, false, true, slice_get};
+ghost use Rattle.std.specs.Prelude.{◌≡◌, ◌≢◌, ◌⊎◌, ◌↔◌, ◌++◌, ℕ, Contains, List, None, Some, false, true, slice_get};
 ghost use Rattle.block_codec.specs.Erased.{IsErasedFrom};
 ghost use Rattle.boot_rules.specs.Choosing.{boot_units_in};
 ghost use Rattle.boot_rules.specs.Chosen.{Chosen};
@@ -13,7 +13,7 @@ ghost use Rattle.boot_rules.specs.Tables.{table_in};
 ghost use Rattle.boot_rules.specs.declared.decision.Decision.{Decision};
 ghost use Rattle.boot_rules.specs.declared.decision.Decision.TheVariants.{Start};
 ghost use Rattle.boot_rules.specs.declared.tables.Found.{Found};
-ghost use Rattle.law_boot_cuts.specs.Crashes.{AreOwnSteps, LeavesNoAccidentalImage, IsUnitWindow, KeepsOtherRows, KeepsOtherTriples, PicksBought, StartsBought};
+ghost use Rattle.law_boot_cuts.specs.Crashes.{AreOwnSteps, LeavesNoAccidentalImage, IsUnitWindow, KeepsOtherRows, KeepsOtherTriples, PicksBought, StartsAlike, StartsBought};
 ghost use Rattle.boot_rules.specs.AccidentalImages.{HasNoImage, IsSameImageIn, HasNoAccidentalImage};
 ghost use Rattle.image_check.specs.Changes.{bought};
 ghost use Rattle.image_check.specs.SameImage.{SameImage};
@@ -115,6 +115,24 @@ pub fn triples_apart_keep_other_rows()
         (steps : List Step)
         → IsContent c → Chosen c cpu kind (Start choice) → AreOwnSteps c cpu choice steps
         → KeepsOtherTriples c cpu choice u steps → KeepsOtherRows c cpu u steps }
+{}
+
+/// Let a start or a buy do the first of its steps alone, as one does in which power is lost. Let
+/// there be a table, and let these steps raise no row in the triple of a row that an image of
+/// another boot unit, valid in a normal boot, lists. Suppose that power is lost in one of them, and
+/// that a cut erase or program leaves no accidental image in the window that it writes: none but
+/// those that it has before these steps and after them. Then a normal boot decides as before them,
+/// or starts whole what it starts after them.
+pub fn own_writes_that_are_cut_short()
+    ensures { (c : Content) (cpu : Cpu) (kind : BootKind) (choice : Choice) (u : SlotUnit)
+        (found : Found) (steps done rest : List Step) (k : ℕ) (step : Step) (d : Content)
+        (e : Decision)
+        → IsContent c → Chosen c cpu kind (Start choice) → IsOfUnit c cpu choice u
+        → table_in c ≡ Some found → AreOwnSteps c cpu choice steps → steps ≡ done ++ rest
+        → KeepsOtherRows c cpu u done → IsCutAt c done k step d
+        → LeavesNoAccidentalImage c (after_all c done) d cpu choice step
+        → Chosen c cpu Normal e
+        → Chosen d cpu Normal e ⊎ StartsAlike (after_all c done) d cpu }
 {}
 
 /// Where there is a table, the steps of an updated start or of a buy, done or torn, leave it.
