@@ -2,10 +2,14 @@ pub mod BootLemmas
 pub mod KeptLemmas
 pub mod MadeLemmas
 pub mod RowBitLemmas
+pub mod RaisedLemmas
+pub mod BelowLemmas
 pub mod WriteLemmas
 pub mod ServedLemmas
 pub mod DownloadLemmas
 pub mod AgainLemmas
 pub mod TargetLemmas
 pub mod OftenLemmas
+pub mod BootRowLemmas
 pub mod MetLemmas
+pub mod ExampleLemmas

@@ -11,6 +11,7 @@ use Rattle.pico_board.specs.declared.step.Step.TheVariants.{Erase, Program, Rais
 use Rattle.pico_board.specs.Content.{Content}
 use Rattle.pico_board.specs.Steps.{CutOf, IsRaise, Torn, after, after_all}
 use Rattle.pico_board.proofs.StepLemmas.{CutOf-append_cases}
+use Rattle.law_updates.specs.Raised.{IsRaiseOf}
 
 -- a bit of a row
 abbrev pub row_bit : Content → ℕ → ℕ → ℕ
@@ -47,14 +48,14 @@ ge-is : (r n : ℕ) → n ≤ r → nat_lt r n ≡ false
 ge-is r n le = grind (arith, le)
 
 -- a raise of a row inside adds its bits there
-raise-here : (n r b k : ℕ) → r < n → step_bit n (Raise r b) r k ≡ bit_at b k
+pub raise-here : (n r b k : ℕ) → r < n → step_bit n (Raise r b) r k ≡ bit_at b k
 raise-here n r b k lt =
     ap (λ t. cond t (bit_at b k) 0) (and-both (r == r) (nat_lt r n) (eq-eqb r r refl) (lt-is r n lt))
 
 pub raise-there : (n r b row k : ℕ) → (r ≡ row → ⊥) → step_bit n (Raise r b) row k ≡ 0
 raise-there n r b row k other = ap (λ t. cond t (bit_at b k) 0) (and-first (r == row) (nat_lt r n) (ne_eqb r row other))
 
-raise-past : (n r b row k : ℕ) → n ≤ r → step_bit n (Raise r b) row k ≡ 0
+pub raise-past : (n r b row k : ℕ) → n ≤ r → step_bit n (Raise r b) row k ≡ 0
 raise-past n r b row k le = ap (λ t. cond t (bit_at b k) 0) (and-second (r == row) (nat_lt r n) (ge-is r n le))
 
 pub raise-most : (n r b row k : ℕ) → step_bit n (Raise r b) row k ≤ bit_at b k
@@ -113,7 +114,7 @@ added-append n [] ys row k = omega arith
 added-append n (x ∷ xs) ys row k = let rest = added-append n xs ys row k in omega (arith, rest)
 
 -- what a loss of power within a step leaves lies between
-torn-between : (c : Content) (step : Step) (d : Content) → Torn c step d → (row k : ℕ)
+pub torn-between : (c : Content) (step : Step) (d : Content) → Torn c step d → (row k : ℕ)
     → (row_bit c row k ≤ row_bit d row k)
     × (row_bit d row k ≤ max (row_bit c row k) (step_bit (length c.otp) step row k))
 torn-between c (Erase s) d torn row k =
@@ -147,7 +148,7 @@ torn-between c (Raise r b) d torn row k = elim (cases_eq row r) [
           | inr ge ↦ absurd (ne (omega (arith, le, ge)))
         ]
 
-torn-long : (c : Content) (step : Step) (d : Content) → Torn c step d → length d.otp ≡ length c.otp
+pub torn-long : (c : Content) (step : Step) (d : Content) → Torn c step d → length d.otp ≡ length c.otp
 torn-long c (Erase s) d torn = ap (λ (xs : List ℕ). length xs) torn.rows
 torn-long c (Program p bytes) d torn = ap (λ (xs : List ℕ). length xs) torn.rows
 torn-long c (Raise r b) d torn = torn.outside.long
@@ -174,46 +175,104 @@ cut-between c (step ∷ steps) d (inr later) row k =
     (omega (arith, one, here), omega (arith, two, here, same))
 
 -- The rows of d lie between those of c and those after the steps. Of each two parts of the steps, the first is done in
--- them whole, or nothing but it is done.
-pub record LiesIn (n : ℕ) (steps : List Step) (c d : Content) : Type 0 where
+-- them whole, or nothing but it is done. Rows that are free may have more bits.
+pub record LiesIn (Free : ℕ → Type 0) (n : ℕ) (steps : List Step) (c d : Content) : Type 0 where
   pub former_long : length c.otp ≡ n
   pub long : length d.otp ≡ n
   pub risen : (row k : ℕ) → row_bit c row k ≤ row_bit d row k
-  pub few : (row k : ℕ) → row_bit d row k ≤ max (row_bit c row k) (added n steps row k)
+  pub few : (row k : ℕ) → (Free row → ⊥) → row_bit d row k ≤ max (row_bit c row k) (added n steps row k)
   pub ordered : (xs ys : List Step) → steps ≡ xs ++ ys
-      → ((row k : ℕ) → row_bit d row k ≤ max (row_bit c row k) (added n xs row k))
+      → ((row k : ℕ) → (Free row → ⊥) → row_bit d row k ≤ max (row_bit c row k) (added n xs row k))
       ⊎ ((row k : ℕ) → added n xs row k ≤ row_bit d row k)
 
-pub lies-cut : (c : Content) (steps : List Step) (d : Content) → CutOf c steps d → LiesIn (length c.otp) steps c d
-lies-cut c steps d cut = record {
+pub lies-self : (Free : ℕ → Type 0) (steps : List Step) (c : Content) → LiesIn Free (length c.otp) steps c c
+lies-self Free steps c = record {
   former_long = refl;
-  long = cut-long c steps d cut;
-  risen = λ row k. (cut-between c steps d cut row k).0;
-  few = λ row k. (cut-between c steps d cut row k).1;
-  ordered = λ xs ys whole.
-      elim (CutOf-append_cases c xs ys d (subst (λ zs. CutOf c zs d) whole cut)) [
-        | inl first ↦ inl (λ row k. (cut-between c xs d first row k).1)
-        | inr second ↦ inr (λ row k.
-            (let rises = (cut-between (after_all c xs) ys d second row k).0 in
-            let now = bit-all c xs row k in omega (arith, rises, now)))
-      ];
+  long = refl;
+  risen = λ row k. omega arith;
+  few = λ row k held. omega arith;
+  ordered = λ xs ys whole. inl (λ row k held. omega arith);
 }
 
+-- a further loss of power in the steps
+pub lies-on : (Free : ℕ → Type 0) (n : ℕ) (c : Content) (steps : List Step) (x d : Content)
+    → LiesIn Free n steps c x → CutOf x steps d → LiesIn Free n steps c d
+lies-on Free n c steps x d lies cut = record {
+  former_long = lies.former_long;
+  long = cut-long x steps d cut ∙ lies.long;
+  risen = λ row k. (let was = lies.risen row k in let now = (cut-between x steps d cut row k).0 in omega (arith, was, now));
+  few = λ row k held.
+      (let was = lies.few row k held in let now = most steps cut row k in omega (arith, was, now));
+  ordered = λ xs ys whole.
+      elim (CutOf-append_cases x xs ys d (subst (λ zs. CutOf x zs d) whole cut)) [
+        | inl first ↦ elim (lies.ordered xs ys whole) [
+          | inl nothing ↦ inl (λ row k held.
+              (let was = nothing row k held in let now = most xs first row k in omega (arith, was, now)))
+          | inr done ↦ inr (λ row k.
+              (let was = done row k in let now = (cut-between x xs d first row k).0 in omega (arith, was, now)))
+        ]
+        | inr second ↦ inr (λ row k.
+            (let rises = (cut-between (after_all x xs) ys d second row k).0 in
+            let now = bit-all x xs row k in
+            let same = ap (λ m. added m xs row k) lies.long in omega (arith, rises, now, same)))
+      ];
+}
+  where
+    most : (xs : List Step) → CutOf x xs d → (row k : ℕ)
+        → row_bit d row k ≤ max (row_bit x row k) (added n xs row k)
+    most xs lost row k =
+        let now = (cut-between x xs d lost row k).1 in
+        let same = ap (λ m. added m xs row k) lies.long in omega (arith, now, same)
+
+-- raises of other rows than this one
+held-none : (Free : ℕ → Type 0) (n : ℕ) (raises : List Step) → AllByRecursion (IsRaiseOf Free) raises → (row k : ℕ)
+    → (Free row → ⊥) → added n raises row k ≡ 0
+held-none Free n [] all row k held = refl
+held-none Free n (step ∷ raises) all row k held =
+    let rest = held-none Free n raises all.1 row k held in
+    let one = first step all.0 in omega (arith, rest, one)
+  where
+    first : (step : Step) → IsRaiseOf Free step → step_bit n step row k ≡ 0
+    first (Erase s) is = absurd is
+    first (Program p d) is = absurd is
+    first (Raise r b) is = raise-there n r b row k (λ same. held (subst Free same is))
+
+-- raises of free rows
+pub lies-raised : (Free : ℕ → Type 0) (n : ℕ) (c : Content) (steps : List Step) (x : Content) (raises : List Step)
+    → LiesIn Free n steps c x → AllByRecursion (IsRaiseOf Free) raises → LiesIn Free n steps c (after_all x raises)
+lies-raised Free n c steps x raises lies all = record {
+  former_long = lies.former_long;
+  long = long-all x raises ∙ lies.long;
+  risen = λ row k. (let was = lies.risen row k in let now = bit-all x raises row k in omega (arith, was, now));
+  few = λ row k held. (let was = lies.few row k held in let now = same row k held in omega (arith, was, now));
+  ordered = λ xs ys whole. elim (lies.ordered xs ys whole) [
+    | inl nothing ↦ inl (λ row k held.
+        (let was = nothing row k held in let now = same row k held in omega (arith, was, now)))
+    | inr done ↦ inr (λ row k.
+        (let was = done row k in let now = bit-all x raises row k in omega (arith, was, now)))
+  ];
+}
+  where
+    same : (row k : ℕ) → (Free row → ⊥) → row_bit (after_all x raises) row k ≡ row_bit x row k
+    same row k held =
+        let now = bit-all x raises row k in
+        let none = held-none Free (length x.otp) raises all row k held in omega (arith, now, none)
+
 -- the steps of a first part are done in both
-pub lies-after : (n : ℕ) (first rest : List Step) (c d : Content) → LiesIn n (first ++ rest) c d
-    → LiesIn n rest (after_all c first) (after_all d first)
-lies-after n first rest c d lies = record {
+pub lies-after : (Free : ℕ → Type 0) (n : ℕ) (first rest : List Step) (c d : Content)
+    → LiesIn Free n (first ++ rest) c d → LiesIn Free n rest (after_all c first) (after_all d first)
+lies-after Free n first rest c d lies = record {
   former_long = long-all c first ∙ lies.former_long;
   long = long-all d first ∙ lies.long;
   risen = λ row k.
       (let one = one row k in let two = two row k in let was = lies.risen row k in omega (arith, one, two, was));
-  few = λ row k.
-      (let one = one row k in let two = two row k in let was = lies.few row k in
+  few = λ row k held.
+      (let one = one row k in let two = two row k in let was = lies.few row k held in
       let parts = added-append n first rest row k in omega (arith, one, two, was, parts));
   ordered = λ xs ys whole.
       elim (lies.ordered (first ++ xs) ys (ap (λ zs. first ++ zs) whole ∙ sym (append-assoc first xs ys))) [
-        | inl nothing ↦ inl (λ row k.
-            (let one = one row k in let two = two row k in let was = nothing row k in
+        | inl nothing ↦ inl (λ row k held.
+            (let one = one row k in let two = two row k in let was = nothing row k held in
             let parts = added-append n first xs row k in omega (arith, one, two, was, parts)))
         | inr done ↦ inr (λ row k.
             (let two = two row k in let was = done row k in
@@ -254,10 +313,10 @@ done-already d steps all done =
     content_of : List ℕ → List ℕ → Content
     content_of xs ys = record { flash = xs; otp = ys }
 
--- where nothing is left to do the rows are the same
-pub none-left : (n : ℕ) (c d : Content) → LiesIn n [] c d → d.otp ≡ c.otp
-none-left n c d lies =
-    ext_get_or 0 d.otp c.otp (lies.long ∙ sym lies.former_long) (λ row lt.
+-- where nothing is left to do, a row that is not free is the same
+pub none-left : (Free : ℕ → Type 0) (n : ℕ) (c d : Content) → LiesIn Free n [] c d → (row : ℕ) → (Free row → ⊥)
+    → slice_index d.otp row ≡ slice_index c.otp row
+none-left Free n c d lies row held =
     same_from_bits (slice_index d.otp row) (slice_index c.otp row) (λ k.
-    (let low = lies.risen row k in let high = lies.few row k in
-    let same : row_bit d row k ≡ row_bit c row k = omega (arith, low, high) in same)))
+    (let low = lies.risen row k in let high = lies.few row k held in
+    let same : row_bit d row k ≡ row_bit c row k = omega (arith, low, high) in same))

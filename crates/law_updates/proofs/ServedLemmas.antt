@@ -10,6 +10,8 @@ use Rattle.image_def.specs.declared.started.Started.{Started}
 use Rattle.image_check.specs.declared.why.Why.{Why}
 use Rattle.image_check.specs.Addressing.{in_ram}
 use Rattle.image_check.specs.Image.{image_in}
+use Rattle.image_check.specs.NotBelow.{NotBelow}
+use Rattle.image_check.specs.Valid.{IsValidImage}
 use Rattle.image_check.proofs.LawLemmas.{not-below, valid-exactly}
 use Rattle.image_check.proofs.RollbackLemmas.{raised-below, valid-elsewhere}
 use Rattle.load_map.specs.Addresses.{in_sram}
@@ -69,8 +71,28 @@ place-same host true true true true true x o ram stored reply none = some-none x
     some-none : {P : Type 0} (y : Started) → Some y ≡ None → P
     some-none y f = cc
 
+no-start : {P : Type 0} (y : Started) → None ≡ Some y → P
+no-start y f = cc
+
+some-same : (x y : Started) → Some x ≡ Some y → x ≡ y
+some-same x y f = cc
+
+-- an image that starts is the image that was found
+start-same : (b1 b2 b3 b4 e : Bool) (x image : Started) (ram stored reply : List ℕ)
+    → (ram_by b1 b2 b3 b4 e (Some x) ram stored reply).start ≡ Some image → x ≡ image
+start-same false b2 b3 b4 e x image ram stored reply is = no-start image is
+start-same true false b3 b4 e x image ram stored reply is = no-start image is
+start-same true true false b4 e x image ram stored reply is = no-start image is
+start-same true true true false e x image ram stored reply is = no-start image is
+start-same true true true true false x image ram stored reply is = no-start image is
+start-same true true true true true x image ram stored reply is = some-same x image is
+
 module _ (n : ℕ) (c d : Content) (cpu : Cpu) (host : Host) (flash : length d.flash ≡ length c.flash)
     (less : (r k : ℕ) → row_bit c r k ≤ row_bit d r k) where
+  -- an image of which this holds is not below the rows of d where it is not below those of c
+  abbrev pub Stays : (Started → Type 0) → Type 0
+  Stays Is = (image : Started) → Is image → NotBelow c.otp image → NotBelow d.otp image
+
   module _ (cmd : Cmd) (payload : List ℕ) where
     abbrev image_of : List ℕ → Option Started
     image_of otp =
@@ -91,18 +113,36 @@ module _ (n : ℕ) (c d : Content) (cpu : Cpu) (host : Host) (flash : length d.f
     ok-is (Ok x) s e = cc
     ok-is (Err y) s e = cc
 
-    -- an image that is valid on more bits was valid before
-    image-back : (s : Started) → image_of d.otp ≡ Some s → image_of c.otp ≡ Some s
-    image-back s is =
+    abbrev valid-in : List ℕ → Started → Type 0
+    valid-in otp s =
+        IsValidImage (in_ram (reboot_p0 cmd)) (ram_window (reboot_p0 cmd) (reboot_range host.ram cmd)) cpu false otp
+        (reboot_range host.ram cmd) s
+
+    valid-of : (otp : List ℕ) (s : Started) → image_of otp ≡ Some s → valid-in otp s
+    valid-of otp s is =
+        (valid-exactly (in_ram (reboot_p0 cmd)) (ram_window (reboot_p0 cmd) (reboot_range host.ram cmd)) cpu false otp
+        (reboot_range host.ram cmd) s).1 (ok-is (image_in (in_ram (reboot_p0 cmd))
+        (ram_window (reboot_p0 cmd) (reboot_range host.ram cmd)) cpu false otp (reboot_range host.ram cmd)) s is)
+
+    below-of : (otp : List ℕ) (s : Started) → image_of otp ≡ Some s → NotBelow otp s
+    below-of otp s is =
+        not-below (in_ram (reboot_p0 cmd)) (ram_window (reboot_p0 cmd) (reboot_range host.ram cmd)) cpu false otp
+        (reboot_range host.ram cmd) s (valid-of otp s is)
+
+    -- an image that is valid is valid on other rows that it is not below
+    image-on : (otp other : List ℕ) (s : Started) → image_of otp ≡ Some s → NotBelow other s → image_of other ≡ Some s
+    image-on otp other s is not =
         let bytes = reboot_range host.ram cmd in
         let base = reboot_p0 cmd in
         let w = ram_window base bytes in
-        let there = (valid-exactly (in_ram base) w cpu false d.otp bytes s).1
-        (ok-is (image_in (in_ram base) w cpu false d.otp bytes) s is) in
+        ap result_ok ((valid-exactly (in_ram base) w cpu false other bytes s).0
+        (valid-elsewhere (in_ram base) w cpu false otp other bytes s (valid-of otp s is) not))
+
+    -- an image that is valid on more bits was valid before
+    image-back : (s : Started) → image_of d.otp ≡ Some s → image_of c.otp ≡ Some s
+    image-back s is =
         let rises : Rises c.otp d.otp = record { bits = λ r k. less r k } in
-        ap result_ok ((valid-exactly (in_ram base) w cpu false c.otp bytes s).0
-        (valid-elsewhere (in_ram base) w cpu false d.otp c.otp bytes s there
-        (raised-below c.otp d.otp s rises (not-below (in_ram base) w cpu false d.otp bytes s there))))
+        image-on d.otp c.otp s is (raised-below c.otp d.otp s rises (below-of d.otp s is))
 
     some-none : {P : Type 0} (o : Option Started) (s : Started) → o ≡ None → o ≡ Some s → P
     some-none o s e f = cc
@@ -114,15 +154,19 @@ module _ (n : ℕ) (c d : Content) (cpu : Cpu) (host : Host) (flash : length d.f
         go None is = refl
         go (Some s) is = some-none (image_of c.otp) s none (image-back s is)
 
-    ram-place : ((image : Started) → place_by (image_of c.otp) ≡ Running (FromRam image) → d.otp ≡ c.otp)
+    ram-place : Stays (λ image. place_by (image_of c.otp) ≡ Running (FromRam image))
         → place_by (image_of d.otp) ≡ place_by (image_of c.otp)
-    ram-place ends = go (image_of c.otp) refl
+    ram-place stays = go (image_of c.otp) refl
       where
         started : (o : Option Started) (x : Started) → image_of c.otp ≡ Some x → (by (Some x)).start ≡ o
             → place_by (image_of d.otp) ≡ place_by (image_of c.otp)
         started (Some image) x is starts =
-            ap (λ otp. place_by (image_of otp))
-            (ends image (ap place_by is ∙ ap (λ y. ram_place host y (by (Some x)).ram) starts))
+            let same : x ≡ image = start-same (not (cmd.id == WRITE && is_some host.placing)) (has_transfer cmd payload)
+            (cmd.id == REBOOT || in_sram (address cmd) (size cmd)) (not (cmd.id == REBOOT) || is_range cmd)
+            (cmd.id == REBOOT) x image host.ram (ram_stored host.ram cmd payload) (ram_reply host.ram cmd) starts in
+            let on = stays x (ap place_by is ∙ (ap (λ y. ram_place host y (by (Some x)).ram) starts
+            ∙ ap (λ y. Running (FromRam y)) (sym same))) (below-of c.otp x is) in
+            ap place_by (image-on c.otp d.otp x is on ∙ sym is)
         started None x is starts =
             place-same host (not (cmd.id == WRITE && is_some host.placing)) (has_transfer cmd payload)
             (cmd.id == REBOOT || in_sram (address cmd) (size cmd)) (not (cmd.id == REBOOT) || is_range cmd)
@@ -134,10 +178,9 @@ module _ (n : ℕ) (c d : Content) (cpu : Cpu) (host : Host) (flash : length d.f
         go None is = ap place_by (none-stays is ∙ sym is)
         go (Some x) is = started (by (Some x)).start x is refl
 
-    ram-exact : ((image : Started) → (serves_ram c cpu host cmd payload).place ≡ Running (FromRam image)
-        → d.otp ≡ c.otp)
+    ram-exact : Stays (λ image. (serves_ram c cpu host cmd payload).place ≡ Running (FromRam image))
         → IsExact (serves_ram c cpu host cmd payload) (serves_ram d cpu host cmd payload)
-    ram-exact ends = record { steps = refl; place = ram-place ends; boot = refl }
+    ram-exact stays = record { steps = refl; place = ram-place stays; boot = refl }
 
     abbrev Same : Type 0
     Same = IsSame n c d (table_of_found host.found) (is_some host.placing) cmd payload flash less
@@ -159,20 +202,20 @@ module _ (n : ℕ) (c d : Content) (cpu : Cpu) (host : Host) (flash : length d.f
 
     kinds-same : (a b : Bool)
         → ((r k : ℕ) → IsRowNamed (Ok cmd) r → row_bit d r k ≤ max (row_bit c r k) (added n (kinds c a b).steps r k))
-        → ((image : Started) → (kinds c a b).place ≡ Running (FromRam image) → d.otp ≡ c.otp)
+        → Stays (λ image. (kinds c a b).place ≡ Running (FromRam image))
         → IsExact (kinds c a b) (kinds d a b)
-    kinds-same true b few ends = record { steps = refl; place = refl; boot = refl }
-    kinds-same false true few ends = ram-exact ends
-    kinds-same false false few ends =
+    kinds-same true b few stays = record { steps = refl; place = refl; boot = refl }
+    kinds-same false true few stays = ram-exact stays
+    kinds-same false false few stays =
         host-exact (command-same n c d (table_of_found host.found) (is_some host.placing) cmd payload flash less
         (λ r k id low high. few r k (id, low, high)))
 
     kinds-done : length d.otp ≡ n → (a b : Bool) → ((r k : ℕ) → added n (kinds c a b).steps r k ≤ row_bit d r k)
-        → ((image : Started) → (kinds c a b).place ≡ Running (FromRam image) → d.otp ≡ c.otp)
+        → Stays (λ image. (kinds c a b).place ≡ Running (FromRam image))
         → IsExact (kinds c a b) (kinds d a b) ⊎ IsIdle d (kinds c a b) (kinds d a b)
-    kinds-done long true b done ends = inl (record { steps = refl; place = refl; boot = refl })
-    kinds-done long false true done ends = inl (ram-exact ends)
-    kinds-done long false false done ends =
+    kinds-done long true b done stays = inl (record { steps = refl; place = refl; boot = refl })
+    kinds-done long false true done stays = inl (ram-exact stays)
+    kinds-done long false false done stays =
         elim (command-done n c d (table_of_found host.found) (is_some host.placing) cmd payload flash less long done) [
           | inl same ↦ inl (host-exact same)
           | inr skipped ↦ inr (host-idle skipped)
@@ -181,19 +224,19 @@ module _ (n : ℕ) (c d : Content) (cpu : Cpu) (host : Host) (flash : length d.f
   pub served-same : (r : Result Cmd CmdFault) (payload : List ℕ)
       → ((row k : ℕ) → IsRowNamed r row
       → row_bit d row k ≤ max (row_bit c row k) (added n (command_served c cpu host r payload).steps row k))
-      → ((image : Started) → (command_served c cpu host r payload).place ≡ Running (FromRam image) → d.otp ≡ c.otp)
+      → Stays (λ image. (command_served c cpu host r payload).place ≡ Running (FromRam image))
       → IsExact (command_served c cpu host r payload) (command_served d cpu host r payload)
-  served-same (Ok cmd) payload few ends = kinds-same cmd payload (cmd.id == INFO) (is_ram_command cmd) few ends
-  served-same (Err fault) payload few ends = record { steps = refl; place = refl; boot = refl }
+  served-same (Ok cmd) payload few stays = kinds-same cmd payload (cmd.id == INFO) (is_ram_command cmd) few stays
+  served-same (Err fault) payload few stays = record { steps = refl; place = refl; boot = refl }
 
   pub served-done : length d.otp ≡ n → (r : Result Cmd CmdFault) (payload : List ℕ)
       → ((row k : ℕ) → added n (command_served c cpu host r payload).steps row k ≤ row_bit d row k)
-      → ((image : Started) → (command_served c cpu host r payload).place ≡ Running (FromRam image) → d.otp ≡ c.otp)
+      → Stays (λ image. (command_served c cpu host r payload).place ≡ Running (FromRam image))
       → IsExact (command_served c cpu host r payload) (command_served d cpu host r payload)
       ⊎ IsIdle d (command_served c cpu host r payload) (command_served d cpu host r payload)
-  served-done long (Ok cmd) payload done ends =
-      kinds-done cmd payload long (cmd.id == INFO) (is_ram_command cmd) done ends
-  served-done long (Err fault) payload done ends = inl (record { steps = refl; place = refl; boot = refl })
+  served-done long (Ok cmd) payload done stays =
+      kinds-done cmd payload long (cmd.id == INFO) (is_ram_command cmd) done stays
+  served-done long (Err fault) payload done stays = inl (record { steps = refl; place = refl; boot = refl })
 
 -- a command raises no row that it does not name
 pub served-unnamed : (n : ℕ) (c : Content) (cpu : Cpu) (host : Host) (r : Result Cmd CmdFault) (payload : List ℕ)

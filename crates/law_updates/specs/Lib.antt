@@ -3,6 +3,7 @@ pub mod Boots
 pub mod Made
 pub mod Again
 pub mod Targets
+pub mod Raised
 pub mod Often
 pub mod Examples
 pub mod Met

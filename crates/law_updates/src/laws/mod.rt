@@ -1,6 +1,6 @@
 //! Laws of updates, each the contract of a function that does nothing.
 
-ghost use Rattle.std.specs.Prelude.{◌≡◌, ◌⊎◌, ◌+◌, ℕ, Contains, List, [], Option, Some};
+ghost use Rattle.std.specs.Prelude.{◌≡◌, ◌⊎◌, ◌+◌, ◌≤◌, ℕ, Contains, List, [], Option, Some};
 ghost use Rattle.std.specs.List.{AllByRecursion};
 ghost use Rattle.boot_machine.specs.Machines.{Host, MachineView};
 ghost use Rattle.boot_machine.specs.Serving.{table_of_found};
@@ -28,10 +28,12 @@ ghost use Rattle.law_boot_cuts.specs.Crashes.{LeavesNoAccidentalImage};
 ghost use Rattle.law_boot_cuts.specs.Running.{RunsTrial};
 ghost use Rattle.law_updates.specs.Again.{IsNoBlock, NamesRowsOnce};
 ghost use Rattle.law_updates.specs.Often.{IsLeftAfter};
+ghost use Rattle.law_updates.specs.Raised.{AreLeftByBoots, IsRaiseOf, IsRaisedBy, IsUntouched, MayRise};
 ghost use Rattle.law_updates.specs.Targets.{AsksOnce, HaveSameTargets};
 ghost use Rattle.law_updates.specs.Boots.{after_boots};
 ghost use Rattle.law_updates.specs.Made.{DoesBoot, DoesBuy};
 ghost use Rattle.law_updates.specs.Met.{GoesOn, LeavesWholeImages};
+ghost use Rattle.otp_roll.specs.declared.rows.TheConstants.{FIRST_ROW};
 ghost use Rattle.pico_board.specs.Content.{Content, IsContent};
 ghost use Rattle.pico_board.specs.Steps.{CutOf, IsCutAt, after_all};
 ghost use Rattle.pico_board.specs.declared.Step.{Step};
@@ -151,24 +153,40 @@ pub fn a_script_that_is_played_again()
     steps_that_are_done_again_come_to_one_end();
 }
 
-/// Played again and again. Let no two OTP writes of the events name one row, and let each program of
-/// their session follow an erase of its sector. Let power be lost any number of times: in the session,
-/// and then each time in the one that is played again on what the loss before left. Each loss leaves
-/// the table as it was, and gives each block that asks for a target the same one; and no boot in
-/// between writes. Then the session does the same steps each time, and once it is played to its end
-/// the content is the one that it would have come to.
+/// Played again and again. Let each program of the session follow an erase of its sector. Let power
+/// be lost any number of times: in the session, and then each time in the one that is played again
+/// on what was left. Boots in between may raise rows that no OTP write of the events names, and that
+/// are in no triple of the image in RAM that they start. Each content that is played on has the
+/// table of c, and gives each block that asks for a target the same one. Then, once the session is
+/// played to its end, the content is the one that it would have come to, with the rows that the
+/// boots raised raised as well. The session does the same steps each time, where no two OTP writes
+/// name one row.
 pub fn a_script_that_is_played_often()
-    ensures steps { (n : ℕ) (c d : Content) (cpu : Cpu) (events : List EventView)
-        → NamesRowsOnce events → IsLeftAfter n c cpu events d
-        → session d cpu events ≡ session c cpu events }
     ensures content { (n : ℕ) (c d : Content) (cpu : Cpu) (events : List EventView)
-        → NamesRowsOnce events → ((k : ℕ) → IsUnerased (session c cpu events) k → ⊥)
-        → IsLeftAfter n c cpu events d
-        → after_all d (session d cpu events) ≡ after_all c (session c cpu events) }
+        (raises : List Step) → ((k : ℕ) → IsUnerased (session c cpu events) k → ⊥)
+        → IsLeftAfter n c cpu events raises d
+        → after_all d (session d cpu events)
+        ≡ after_all (after_all c (session c cpu events)) raises }
+    ensures steps { (n : ℕ) (c d : Content) (cpu : Cpu) (events : List EventView)
+        (raises : List Step) → NamesRowsOnce events → IsLeftAfter n c cpu events raises d
+        → session d cpu events ≡ session c cpu events }
 {
     the_first_unerased_step_is_told();
     steps_that_are_done_again_come_to_one_end();
 }
+
+/// What normal boots leave, each of them done or cut by a loss of power, is what raises leave. They
+/// raise no row before the first one that an image may list. So boots between two playings of the
+/// events do what `IsLeftAfter` says of them, where each row that they raise is one that no OTP write
+/// of the events names, and is in no triple of the image in RAM that these start.
+pub fn boots_raise_rows_alone()
+    ensures listed { (c : Content) (cpu : Cpu) (row : ℕ) → IsRaisedBy c cpu row
+        → FIRST_ROW ≤ row }
+    ensures raises { (c x y : Content) (cpu : Cpu) (events : List EventView) (m : ℕ)
+        → AreLeftByBoots (IsUntouched c cpu events) m x cpu y
+        → (raises : List Step) × AllByRecursion (IsRaiseOf (MayRise c cpu events)) raises
+        × (y ≡ after_all x raises) }
+{}
 
 /// Which blocks have the same targets, as a script is played again on d which was made for c.
 /// Commands ask for none. Where one block alone asks, before any step, it is enough that its family
