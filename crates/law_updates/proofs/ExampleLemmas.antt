@@ -131,6 +131,10 @@ boot-late : (row : ℕ) → IsRaisedBy page_written Arm row → 0x0c3 ≤ row
 boot-late row (bits, among) =
     late row bits (subst (λ (steps : List Step). Contains steps (Raise row bits)) (sym boot-steps) among)
 
+pub boot-raised : IsRaisedBy page_written Arm 0x0c3
+boot-raised =
+    (1, subst (λ (steps : List Step). Contains steps (Raise 0x0c3 1)) boot-steps (0, omega arith, refl))
+
 pub boot-may : (row : ℕ) → IsRaisedBy page_written Arm row → MayRise two_sectors Arm small_update row
 boot-may row raised = may-rise row (boot-late row raised)
 

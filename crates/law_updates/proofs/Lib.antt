@@ -11,5 +11,6 @@ pub mod AgainLemmas
 pub mod TargetLemmas
 pub mod OftenLemmas
 pub mod BootRowLemmas
+pub mod ErasedLemmas
 pub mod MetLemmas
 pub mod ExampleLemmas

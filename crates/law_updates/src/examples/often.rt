@@ -29,6 +29,7 @@ pub fn a_loss_behind_a_page()
 /// images list.
 pub fn a_boot_behind_the_loss()
     ensures boot { (booted page_written Arm Normal None).steps ≡ boot_raises }
+    ensures raised { IsRaisedBy page_written Arm 0x0c3 }
     ensures rows { (row : ℕ) → IsRaisedBy page_written Arm row
         → MayRise two_sectors Arm small_update row }
     ensures boots { AreLeftByBoots (IsUntouched two_sectors Arm small_update) 1 page_written Arm

@@ -19,6 +19,10 @@ ghost use Rattle.check_images.specs.Effects.{IsEffect};
 ghost use Rattle.check_images.specs.Starting.{IsStart};
 ghost use Rattle.check_laws.specs.OwnLaws.{BootMade, BuyMade, IsBootKept, IsBootLaw, IsBuyKept, IsBuyLaw, boots_in, buys_in};
 ghost use Rattle.check_require.specs.declared.report.LawOfWrites.TheVariants.{Kept};
+ghost use Rattle.check_laws.specs.Hosts.{IsHosts, first_content};
+ghost use Rattle.check_laws.specs.SessionLaws.{host_steps};
+ghost use Rattle.check_records.specs.Again.{IsAgain};
+ghost use Rattle.check_records.specs.declared.found.Again.TheVariants.{Yes};
 ghost use Rattle.check_records.specs.Unerased.{IsUnerased};
 ghost use Rattle.check_require.specs.Meeting.{unmet};
 ghost use Rattle.check_require.specs.Reports.{ReportView};
@@ -187,6 +191,23 @@ pub fn boots_raise_rows_alone()
         → (raises : List Step) × AllByRecursion (IsRaiseOf (MayRise c cpu events)) raises
         × (y ≡ after_all x raises) }
 {}
+
+/// What `again yes` says of a host's script. Each program of the host's steps follows an erase of its
+/// sector in these steps. So the law above holds of it, where what it is played on has the table of
+/// the content at the host's first event, and gives each block that asks for a target the same one.
+pub fn the_line_again_holds()
+    ensures erased { (c : Content) (cpu : Cpu) (events : List EventView) (pattern : List ℕ) (k : ℕ)
+        → IsHosts c cpu events → IsAgain c cpu events pattern Yes
+        → IsUnerased (host_steps c cpu events) k → ⊥ }
+    ensures content { (n : ℕ) (c d : Content) (cpu : Cpu) (events : List EventView)
+        (pattern : List ℕ) (raises : List Step)
+        → IsHosts c cpu events → IsAgain c cpu events pattern Yes
+        → IsLeftAfter n (first_content c cpu) cpu events raises d
+        → after_all d (session d cpu events)
+        ≡ after_all (after_all (first_content c cpu) (host_steps c cpu events)) raises }
+{
+    a_script_that_is_played_often();
+}
 
 /// Which blocks have the same targets, as a script is played again on d which was made for c.
 /// Commands ask for none. Where one block alone asks, before any step, it is enough that its family

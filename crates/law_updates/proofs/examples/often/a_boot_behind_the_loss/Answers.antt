@@ -1,10 +1,13 @@
 use Rattle.std.proofs.Common.{[], refl, sym, arith}
 use Rattle.law_updates.specs.Examples.{boot_raises, row_raised, two_sectors, written_again}
-use Rattle.law_updates.proofs.ExampleLemmas.{again-table, boot-left, boot-may, boot-rises, boot-steps, first-session, left-by, raised-session, raised-table}
+use Rattle.law_updates.proofs.ExampleLemmas.{again-table, boot-left, boot-may, boot-raised, boot-rises, boot-steps, first-session, left-by, raised-session, raised-table}
 use Rattle.law_updates.proofs.examples.often.a_boot_behind_the_loss.Goals as goal
 
 pub returns-clause-boot : goal.returns-clause-boot
 returns-clause-boot k = sym boot-steps
+
+pub returns-clause-raised : goal.returns-clause-raised
+returns-clause-raised k = boot-raised
 
 pub returns-clause-rows : goal.returns-clause-rows
 returns-clause-rows k = boot-may
