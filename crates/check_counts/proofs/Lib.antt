@@ -1,5 +1,6 @@
 mod CountLemmas
 mod StepLemmas
+mod SlotLemmas
 mod SeenLemmas
 mod TallyLemmas
 mod JudgeLemmas
