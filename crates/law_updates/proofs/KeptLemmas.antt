@@ -6,6 +6,7 @@ use Rattle.std.proofs.lemmas.Bool.{cases_eq, cases_lt}
 use Rattle.std.proofs.lemmas.Option.{get_or_from_slice_get, same_Some, slice_get_within}
 use Rattle.pico_board.specs.declared.Step.{Step}
 use Rattle.pico_board.specs.declared.step.Step.TheVariants.{Raise}
+use Rattle.std.proofs.lemmas.List.Elements.{Contains-append_left}
 use Rattle.pico_board.specs.declared.boot.BootKind.{BootKind}
 use Rattle.pico_board.specs.declared.boot.BootKind.TheVariants.{Normal}
 use Rattle.pico_board.specs.declared.boot.Cpu.{Cpu}
@@ -40,10 +41,10 @@ use Rattle.boot_rules.proofs.PlaceLemmas.{table-sound}
 use Rattle.boot_rules.proofs.SameUnitLemmas.{table-same, units-same}
 use Rattle.boot_rules.proofs.StartLemmas.{is-member, of-unit, start, start-placed, start-trial, start-valid}
 use Rattle.boot_session.specs.CutSessions.{StartsFinished}
-use Rattle.law_boot_cuts.specs.Crashes.{AreOwnSteps, KeepsOtherRows, KeepsOtherTriples, LeavesNoAccidentalImage, StartsBought, settled_choice}
+use Rattle.law_boot_cuts.specs.Crashes.{AreOwnSteps, KeepsOtherRows, KeepsOtherTriples, LeavesNoAccidentalImage}
 use Rattle.law_boot_cuts.proofs.LeftRowLemmas.{image-raises}
-use Rattle.law_boot_cuts.proofs.OwnDecisionLemmas.{decision-kept}
-use Rattle.law_boot_cuts.proofs.OwnLaws.{own-decision-table, triples-rows}
+use Rattle.law_boot_cuts.proofs.OwnDecisionLemmas.{decision-stays}
+use Rattle.law_boot_cuts.proofs.PartLemmas.{counts-left, part-decision, part-rows}
 use Rattle.law_boot_cuts.proofs.OwnLeftLemmas.{IsLeft, raised_rows, slot_size-stays}
 use Rattle.law_boot_cuts.proofs.RaisesCutLemmas.{plain-steps, raises-kept}
 use Rattle.check_laws.specs.Triples.{AreTriplesApart}
@@ -150,24 +151,24 @@ module _ (c : Content) (cpu : Cpu) (kind : BootKind) (choice : Choice) (right : 
         valid among listed (row, bits, raised, not);
   }
 
-  finished : (P : Type 0) (z d : Content) → P ⊎ StartsBought z d cpu choice → P ⊎ StartsFinished z d cpu
-  finished P z d (inl same) = inl same
-  finished P z d (inr bought) = inr (record {
-    choice = settled_choice choice;
-    here = bought.here;
-    after = bought.after;
-    same = bought.same;
-  })
-
-  -- the writes of an updated start, or of a buy
-  pub own-kept : (found : Found) → table_in c ≡ Some found → (steps : List Step) → AreOwnSteps c cpu choice steps
-      → AreTriplesApart c cpu choice.image steps → (k : ℕ) (step : Step) (d : Content) → IsCutAt c steps k step d
-      → LeavesNoAccidentalImage c (after_all c steps) d cpu choice step → (e : Decision) → Chosen c cpu Normal e
-      → Chosen d cpu Normal e ⊎ StartsFinished (after_all c steps) d cpu
-  own-kept found is steps are apart k step d at lucky e former =
-      finished (Chosen d cpu Normal e) (after_all c steps) d
-      (own-decision-table c cpu kind choice right h u of found is steps are k step d at lucky
-      (triples-rows c cpu kind choice right h u steps are (triples-kept steps apart)) e former)
+  -- the first of the writes of an updated start, or of a buy
+  pub own-kept : (found : Found) → table_in c ≡ Some found → (steps done rest : List Step)
+      → AreOwnSteps c cpu choice steps → steps ≡ done ++ rest → AreTriplesApart c cpu choice.image done → (k : ℕ)
+      (step : Step) (d : Content) → IsCutAt c done k step d
+      → LeavesNoAccidentalImage c (after_all c done) d cpu choice step → (e : Decision) → Chosen c cpu Normal e
+      → Chosen d cpu Normal e ⊎ StartsFinished (after_all c done) d cpu
+  own-kept found is steps done rest are begins apart k step d at lucky e former =
+      elim (part-decision c cpu kind choice right h u of found is steps are done rest begins
+      (part-rows c cpu kind choice right h u steps done rest are begins (triples-kept done apart)) k step d at lucky e
+      former) [
+        | inl same ↦ inl same
+        | inr alike ↦ inr (record {
+          choice = alike.choice;
+          here = alike.here;
+          after = alike.after;
+          same = alike.same;
+        })
+      ]
 
   -- a start that is not updated raises rows alone
   module _ (plain : choice.updated ≡ false) where
@@ -194,11 +195,13 @@ module _ (c : Content) (cpu : Cpu) (kind : BootKind) (choice : Choice) (right : 
     image-listed None row bits among = none-among (Raise row bits) among
     image-listed (Some v) row bits among = raises-listed c.otp choice.image.rows.items v row bits among
 
-    rows-kept : AreTriplesApart c cpu choice.image (image_raises c.otp choice.image)
-        → KeepsOtherRows c cpu u (image_raises c.otp choice.image)
-    rows-kept apart = record {
+    rows-kept : (done rest : List Step) → image_raises c.otp choice.image ≡ done ++ rest
+        → AreTriplesApart c cpu choice.image done → KeepsOtherRows c cpu u done
+    rows-kept done rest begins apart = record {
       apart = λ i v m w s r row bits at differ stands valid among raised.
-          (let q = image-listed choice.image.rollback row bits raised in
+          (let q = image-listed choice.image.rollback row bits
+          (subst (λ xs. Contains xs (Raise row bits)) (sym begins)
+          (Contains-append_left done rest (Raise row bits) raised)) in
           outside-apart row r q.0
           (apart v m w s r q.0 (listed-unit (boot_units_in c cpu) i v at) (λ member. differ (one-unit i v at member))
           stands valid among q.1 (row, bits, raised, q.2))
@@ -248,12 +251,11 @@ module _ (c : Content) (cpu : Cpu) (kind : BootKind) (choice : Choice) (right : 
           ∙ sym (subst (λ v. unit_choice (images_in c cpu) v None ≡ Some choice) unit-now
           (taken-alone c cpu choice plain (order_of kind (boot_units_in c cpu)) (start c cpu kind choice h)))
 
-      pub plain-kept : AreTriplesApart c cpu choice.image (image_raises c.otp choice.image) → (e : Decision)
-          → Chosen c cpu Normal e → Chosen d cpu Normal e
-      plain-kept apart e former =
+      pub plain-kept : (done rest : List Step) → image_raises c.otp choice.image ≡ done ++ rest → MayLeave c done d
+          → AreTriplesApart c cpu choice.image done → (e : Decision) → Chosen c cpu Normal e → Chosen d cpu Normal e
+      plain-kept done rest begins some apart e former =
           let same : decision_in d cpu Normal ≡ decision_in c cpu Normal =
-          decision-kept c cpu choice right placed u of listed []
-          (subst (λ before. KeepsOtherRows c cpu u (before ++ image_raises c.otp choice.image))
-          (sym (not-updated c cpu choice plain)) (rows-kept apart))
-          d is-left table taken-same in
+          decision-stays c cpu choice right placed u of listed d is-left
+          (counts-left c cpu choice right placed u of listed done (rows-kept done rest begins apart) d some) table taken-same
+          in
           (chosen-exactly d cpu Normal e).1 ((chosen-exactly c cpu Normal e).0 former ∙ sym same)

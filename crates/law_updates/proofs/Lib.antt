@@ -1,5 +1,6 @@
 pub mod BootLemmas
 pub mod KeptLemmas
+pub mod PlayedLemmas
 pub mod MadeLemmas
 pub mod RowBitLemmas
 pub mod RaisedLemmas

@@ -1,6 +1,7 @@
 //! Worked examples of the premises of the laws.
 
 pub mod often;
+pub mod own;
 
 ghost use Rattle.std.specs.Prelude.{[], ◌∷◌, ℕ};
 ghost use Rattle.std.specs.List.{AllByRecursion};
@@ -12,13 +13,13 @@ ghost use Rattle.check_laws.specs.OwnLaws.{IsBootKept, IsBuyKept};
 ghost use Rattle.law_updates.specs.Again.{IsNoBlock, NamesRowsOnce};
 ghost use Rattle.law_updates.specs.Examples.{a_buy, an_update, begun_host, first_block, last_choice, row_write, runs_trial};
 ghost use Rattle.law_updates.specs.Targets.{AsksFor, AsksOnce};
-ghost use Rattle.law_updates.specs.Made.{DoesBoot, DoesBuy};
+ghost use Rattle.law_updates.specs.Made.{BeginsBoot, BeginsBuy};
 
 use law_boot_cuts::examples::other_rows_stand_apart;
 
 /// An update boot of the last of three images, which raises a triple that none of the others lists.
 pub fn a_boot_that_is_kept()
-    ensures does { DoesBoot Arm an_update last_choice }
+    ensures begins { BeginsBoot Arm an_update last_choice }
     ensures kept { IsBootKept Arm an_update }
 {
     other_rows_stand_apart();
@@ -46,6 +47,6 @@ pub fn blocks_that_ask()
 
 /// A trial image that runs after an update buys itself. It raises no row, so it is kept.
 pub fn a_buy_of_a_trial()
-    ensures does { DoesBuy runs_trial a_buy }
+    ensures begins { BeginsBuy runs_trial a_buy }
     ensures kept { IsBuyKept Arm a_buy }
 {}

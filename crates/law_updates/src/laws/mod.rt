@@ -1,24 +1,21 @@
 //! Laws of updates, each the contract of a function that does nothing.
 
-ghost use Rattle.std.specs.Prelude.{◌≡◌, ◌⊎◌, ◌+◌, ◌≤◌, ℕ, Contains, List, [], Option, Some};
+pub mod own;
+
+ghost use Rattle.std.specs.Prelude.{◌≡◌, ◌+◌, ◌≤◌, ℕ, List, [], Option, Some};
 ghost use Rattle.std.specs.List.{AllByRecursion};
-ghost use Rattle.boot_machine.specs.Machines.{Host, MachineView};
+ghost use Rattle.boot_machine.specs.Machines.{Host};
 ghost use Rattle.boot_machine.specs.Serving.{table_of_found};
-ghost use Rattle.boot_machine.specs.Plays.{powerless};
 ghost use Rattle.boot_rules.specs.Chosen.{Chosen};
-ghost use Rattle.boot_rules.specs.declared.decision.Decision.{Decision};
 ghost use Rattle.boot_rules.specs.declared.decision.Decision.TheVariants.{Start};
 ghost use Rattle.boot_rules.specs.Tables.{table_in};
 ghost use Rattle.boot_rules.specs.Targets.{target_of};
 ghost use Rattle.boot_script.specs.Events.{EventView};
-ghost use Rattle.boot_session.specs.CutSessions.{StartsFinished};
 ghost use Rattle.boot_session.specs.Sessions.{entered_host, session};
 ghost use Rattle.check_images.specs.declared.found.ImageFacts.{ImageFacts};
 ghost use Rattle.check_images.specs.Boots.{after_boot};
 ghost use Rattle.check_images.specs.Effects.{IsEffect};
 ghost use Rattle.check_images.specs.Starting.{IsStart};
-ghost use Rattle.check_laws.specs.OwnLaws.{BootMade, BuyMade, IsBootKept, IsBootLaw, IsBuyKept, IsBuyLaw, boots_in, buys_in};
-ghost use Rattle.check_require.specs.declared.report.LawOfWrites.TheVariants.{Kept};
 ghost use Rattle.check_laws.specs.Hosts.{IsHosts, first_content};
 ghost use Rattle.check_laws.specs.SessionLaws.{host_steps};
 ghost use Rattle.check_records.specs.Again.{IsAgain};
@@ -28,25 +25,21 @@ ghost use Rattle.check_require.specs.Meeting.{unmet};
 ghost use Rattle.check_require.specs.Reports.{ReportView};
 ghost use Rattle.check_require.specs.Requires.{default_require};
 ghost use Rattle.image_check.specs.SameImage.{SameImage};
-ghost use Rattle.law_boot_cuts.specs.Crashes.{LeavesNoAccidentalImage};
-ghost use Rattle.law_boot_cuts.specs.Running.{RunsTrial};
 ghost use Rattle.law_updates.specs.Again.{IsNoBlock, NamesRowsOnce};
 ghost use Rattle.law_updates.specs.Often.{IsLeftAfter};
 ghost use Rattle.law_updates.specs.Raised.{AreLeftByBoots, IsRaiseOf, IsRaisedBy, IsUntouched, MayRise};
 ghost use Rattle.law_updates.specs.Targets.{AsksOnce, HaveSameTargets};
 ghost use Rattle.law_updates.specs.Boots.{after_boots};
-ghost use Rattle.law_updates.specs.Made.{DoesBoot, DoesBuy};
 ghost use Rattle.law_updates.specs.Met.{GoesOn, LeavesWholeImages};
 ghost use Rattle.otp_roll.specs.declared.rows.TheConstants.{FIRST_ROW};
 ghost use Rattle.pico_board.specs.Content.{Content, IsContent};
-ghost use Rattle.pico_board.specs.Steps.{CutOf, IsCutAt, after_all};
+ghost use Rattle.pico_board.specs.Steps.{CutOf, after_all};
 ghost use Rattle.pico_board.specs.declared.Step.{Step};
 ghost use Rattle.pico_board.specs.declared.boot.BootKind.TheVariants.{Normal};
 ghost use Rattle.pico_board.specs.declared.boot.Cpu.{Cpu};
 ghost use Rattle.slot_choice.specs.declared.choice.Choice.{Choice};
 ghost use Rattle.trial_buy.specs.Starting.{start_steps};
 
-use boot_machine::laws::run::a_running_trial_is_chosen;
 use check_records::laws::{
     steps_that_are_done_again_come_to_one_end, the_first_unerased_step_is_told,
 };
@@ -68,72 +61,6 @@ pub fn a_start_goes_on()
     ensures content { (z : Content) (cpu : Cpu) (n : ℕ) → IsContent z
         → after_boots (n + 1) z cpu ≡ after_boot z cpu }
 {}
-
-/// Let a boot of a script start an image, do all of its steps, and be kept: it starts the image
-/// that a normal boot would start and raises rows alone; or there is a table, and no image of
-/// another boot unit lists a row whose triple shares a row with one that the boot raises. Then what
-/// a loss of power in its steps leaves boots as before it, or starts whole what starts after it.
-/// But where an erase or a program is cut, this may leave an accidental image in the window that
-/// the step writes.
-pub fn boots_that_are_kept()
-    ensures { (cpu : Cpu) (b : BootMade) (choice : Choice) (k : ℕ) (step : Step) (d : Content)
-        (former : Decision)
-        → IsContent b.before → DoesBoot cpu b choice → IsBootKept cpu b
-        → IsCutAt b.before b.done k step d
-        → LeavesNoAccidentalImage b.before (after_all b.before b.done) d cpu choice step
-        → Chosen b.before cpu Normal former
-        → Chosen d cpu Normal former ⊎ StartsFinished (after_all b.before b.done) d cpu }
-{}
-
-/// What `law buy=kept` says, of the buy of a trial image that runs, which does all of its steps.
-/// Let the content before it have a table, and let no image of another boot unit list a row whose
-/// triple shares a row with one that the buy raises. Then what a loss of power in its steps leaves
-/// boots as before it, or starts whole what starts after it. But where an erase or a program is
-/// cut, this may leave an accidental image in the window that the step writes. So it may start
-/// half-written, where it has no digest.
-pub fn buys_that_are_kept()
-    ensures { (m n : MachineView) (b : BuyMade) (k : ℕ) (step : Step) (d : Content)
-        (former : Decision)
-        → RunsTrial m n b.choice → IsContent b.before → DoesBuy n b → IsBuyKept n.cpu b
-        → IsCutAt b.before b.done k step d
-        → LeavesNoAccidentalImage b.before (after_all b.before b.done) d n.cpu b.choice step
-        → Chosen b.before n.cpu Normal former
-        → Chosen d n.cpu Normal former ⊎ StartsFinished (after_all b.before b.done) d n.cpu }
-{
-    a_running_trial_is_chosen();
-}
-
-/// The line `law boot=kept` of a script, brought to its boots. Let a boot of the script start an
-/// image, do all of its steps, and lose power in one of them, whatever bytes that tears. Then what
-/// is left boots as before the boot, or starts whole what starts after it. That the content before
-/// the boot is one of a board is a premise.
-pub fn the_law_of_boots_holds()
-    ensures { (c : Content) (cpu : Cpu) (events : List EventView) (b : BootMade) (choice : Choice)
-        (k : ℕ) (step : Step) (d : Content) (former : Decision)
-        → IsBootLaw c cpu events Kept → Contains (boots_in (powerless c cpu) events) b
-        → IsContent b.before → DoesBoot cpu b choice
-        → IsCutAt b.before b.done k step d
-        → LeavesNoAccidentalImage b.before (after_all b.before b.done) d cpu choice step
-        → Chosen b.before cpu Normal former
-        → Chosen d cpu Normal former ⊎ StartsFinished (after_all b.before b.done) d cpu }
-{}
-
-/// The line `law buy=kept` of a script, brought to its buys. Let a trial image that runs buy itself
-/// in the script, do all steps of that, and lose power in one of them, whatever bytes that tears.
-/// Then what is left boots as before the buy, or starts whole what starts after it. That the content
-/// before the buy is one of a board, and that the image runs on it, are premises.
-pub fn the_law_of_buys_holds()
-    ensures { (c : Content) (events : List EventView) (m n : MachineView) (b : BuyMade) (k : ℕ)
-        (step : Step) (d : Content) (former : Decision)
-        → IsBuyLaw c n.cpu events Kept → Contains (buys_in (powerless c n.cpu) events) b
-        → RunsTrial m n b.choice → IsContent b.before → DoesBuy n b
-        → IsCutAt b.before b.done k step d
-        → LeavesNoAccidentalImage b.before (after_all b.before b.done) d n.cpu b.choice step
-        → Chosen b.before n.cpu Normal former
-        → Chosen d n.cpu Normal former ⊎ StartsFinished (after_all b.before b.done) d n.cpu }
-{
-    buys_that_are_kept();
-}
 
 /// Played again. The events are those of a host, from BOOTSEL on as it is entered on the content c:
 /// c1, where they are those of a host's script. Let each program of their session follow an erase of

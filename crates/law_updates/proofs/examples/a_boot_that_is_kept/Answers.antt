@@ -1,5 +1,5 @@
 -- By computing.
-use Rattle.std.proofs.Common.{◌≡◌, ◌∙◌, ℕ, true, List, Option, Some, None, slice_get, refl, sym, ap, subst, inl, inr}
+use Rattle.std.proofs.Common.{◌≡◌, ◌∙◌, ℕ, true, List, [], Option, Some, None, slice_get, refl, sym, ap, subst, inl, inr}
 use Rattle.std.specs.Prelude.{Contains, is_some}
 use Rattle.std.proofs.lemmas.Option.{slice_get-get_or}
 use Rattle.sha2.specs.Sha256.{compress, digest_bytes, first_words, hash_after, rounds, schedule, sha256}
@@ -62,8 +62,9 @@ triples keeps v m w s r q among other stands valid listed row raised =
     (λ same. other (subst (λ x. IsMember x (window_at 0x4000 0x1000)) (sym same) (inl refl)))
     stands valid listed row raised.2 raised.3
 
-pub returns-clause-does : goal.returns-clause-does
-returns-clause-does c = record { chosen = chosen; done = sym c.other_rows_stand_apart.ensures.steps }
+pub returns-clause-begins : goal.returns-clause-begins
+returns-clause-begins c =
+    record { chosen = chosen; rest = []; begins = c.other_rows_stand_apart.ensures.steps }
 
 pub returns-clause-kept : goal.returns-clause-kept
 returns-clause-kept c = inr (record {

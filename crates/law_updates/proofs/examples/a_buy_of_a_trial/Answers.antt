@@ -1,5 +1,5 @@
 -- By computing.
-use Rattle.std.proofs.Common.{◌≡◌, true, refl}
+use Rattle.std.proofs.Common.{◌≡◌, [], true, refl, sym, append-nil}
 use Rattle.sha2.specs.Sha256.{compress, digest_bytes, first_words, hash_after, rounds, schedule, sha256}
 use Rattle.std.specs.Int.Count.{ones, ones_in}
 use Rattle.trial_buy.specs.Buying.{page_programs}
@@ -26,8 +26,8 @@ unfolding first_words schedule rounds compress hash_after digest_bytes sha256 pa
     size_of word_of word_bytes
 raises-own = refl
 
-pub returns-clause-does : goal.returns-clause-does
-returns-clause-does c = record { before = refl; done = refl }
+pub returns-clause-begins : goal.returns-clause-begins
+returns-clause-begins c = record { before = refl; rest = []; begins = sym (append-nil a_buy.done) }
 
 pub returns-clause-kept : goal.returns-clause-kept
 returns-clause-kept c =
