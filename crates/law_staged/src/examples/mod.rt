@@ -1,5 +1,7 @@
 //! A worked staged session, which meets the premises of the laws, and worked steps of stages.
 
+pub mod told;
+
 ghost use Rattle.std.specs.Prelude.{◌≡◌, [], ◌∷◌, ◌++◌, replicate};
 ghost use Rattle.pico_board.specs.declared.Step.TheVariants.{Erase, Program};
 ghost use Rattle.pico_board.specs.declared.boot.Cpu.TheVariants.{Arm};
