@@ -1,15 +1,18 @@
 -- What is read at an offset of a window, against the reader of the definitions.
-use Rattle.std.proofs.Common.{◌≡◌, ◌≢◌, ◌⊎◌, ℕ, suc, ◌+◌, ◌-◌, ◌*◌, ◌%◌, ◌<◌, ◌≤◌, ◌==◌, false, ℤ, pos, negsuc, ◌<ℤ◌, ◌≤ℤ◌, List, length, take, drop, min, Option, Some, None, refl, sym, ap, subst, ◌∙◌, inl, inr, arith, length-take, length-drop}
-use Rattle.std.proofs.lemmas.List.{take-take, drop-drop}
+use Rattle.std.proofs.Common.{◌≡◌, ◌≢◌, ◌⊎◌, ℕ, suc, ◌+◌, ◌-◌, ◌*◌, ◌%◌, ◌<◌, ◌≤◌, ◌==◌, false, ℤ, pos, negsuc, ◌<ℤ◌, ◌≤ℤ◌, List, length, take, drop, get_or, min, Option, Some, None, is_some, refl, sym, ap, subst, ◌∙◌, inl, inr, arith, length-take, length-drop}
+use Rattle.std.proofs.lemmas.Bool.{eq-eqb}
+use Rattle.std.proofs.lemmas.List.{take-take, drop-drop, get_or-take, get_or-drop}
 use Rattle.std.proofs.lemmas.Int.{ints}
 use Rattle.std.specs.Prelude.{IfSome, IfNone}
 use Rattle.std.specs.List.{slice_range}
-use Rattle.block_codec.specs.Words.{word_of}
-use Rattle.block_codec.specs.Blocks.{BlockView, Begins, BlockAt, IsBlock, block_size, start_word}
+use Rattle.memchr.specs.Find.{IsFirstByte, is_byte}
+use Rattle.block_codec.specs.Words.{bytes_of, word_bytes, word_of}
+use Rattle.block_codec.specs.Blocks.{BlockView, Begins, BlockAt, IsBlock, block_size, frame, start_word}
 use Rattle.block_codec.specs.Reading.{front_block, block_at}
 use Rattle.block_codec.proofs.BlockLemmas.{Begins-room, front_block-stands, front_block-begins, front_block-unstarted}
 use Rattle.block_codec.proofs.AtLemmas.{BlockAt-room, BlockAt-from_found, block_at-none, block_at-aligned, no_block-from_none, same_found}
-use Rattle.block_loop.specs.Loop.{block_from, block_at_offset}
+use Rattle.block_loop.specs.Loop.{block_from, first_block, block_at_offset}
+use Rattle.block_loop.proofs.ChainLemmas.{first_block-nowhere}
 use Rattle.block_loop.proofs.FollowLemmas.{first_from-end, first_from-here, first_from-later}
 
 -- what was found stands there, and where nothing was found nothing does
@@ -108,3 +111,28 @@ search_here w k b lt found =
 pub search_end : (w : List ℕ) (k : ℕ) → 1024 ≤ k → block_from (1024 - k) (4 * k) (drop (4 * k) w) ≡ None
 search_end w k past = let none : 1024 - k ≡ 0 = omega arith in ap (λ n. block_from n (4 * k) (drop (4 * k) w)) none
     ∙ first_from-end (4 * k) (drop (4 * k) w)
+
+-- the first byte of a block
+front_byte : (items : List ℕ) (link : ℤ) → get_or (bytes_of (frame items link)) 0 0 ≡ 0xd3
+unfolding frame word_bytes
+front_byte items link = refl
+
+-- the first byte of a block that stands in a window
+pub first_byte : (w : List ℕ) (x : ℕ) (b : BlockView) → BlockAt w x b → get_or w x 0 ≡ 0xd3
+first_byte w x b at =
+    let front : get_or (drop x w) 0 0 ≡ 0xd3 =
+    sym (get_or-take (block_size b) (drop x w) 0 0 (omega arith))
+    ∙ ap (λ p. get_or p 0 0) at.stands.spelled ∙ front_byte b.items b.link in
+    ap (λ k. get_or w k 0) (omega arith) ∙ sym (get_or-drop x w 0 0) ∙ front
+
+-- a window without that byte below 4096 has no first block
+pub unbegun : (w piece : List ℕ) (n : ℕ) (r : Option ℕ) → n ≡ min 4096 (length w) → piece ≡ slice_range w 0 (0 + n)
+    → IsFirstByte (is_byte 0xd3) piece r → is_some r ≡ false → first_block w ≡ None
+unbegun w piece n None is read no_place none = first_block-nowhere w (λ x b lt at.
+    let room = BlockAt-room w x b at in
+    let size : 0 + n - 0 ≡ n = omega arith in
+    let front : piece ≡ take n w = read ∙ ap (λ k. take k (drop 0 w)) size in
+    let long : length piece ≡ min n (length w) = ap length front ∙ length-take n w in
+    no_place x (omega arith) (omega arith) (eq-eqb (get_or piece x 0) 0xd3
+    (ap (λ p. get_or p x 0) front ∙ get_or-take n w x 0 (omega arith) ∙ first_byte w x b at)))
+unbegun w piece n (Some k) is read first some = absurd cc

@@ -6,7 +6,11 @@ ghost use Rattle.block_codec.specs.Reading.{block_at, front_block};
 ghost use Rattle.block_loop.specs.Loop.{first_block, block_at_offset};
 
 use block_codec::{Block, is_block_start, read_block};
+use memchr::memchr;
 use pico_board::View;
+
+/// The byte that each block starts with: the lowest one of its first word.
+const FIRST_BYTE: u8 = 0xd3;
 
 /// Whether a block's first word stands at an offset of the view. The word is read into the four
 /// bytes. Where it does not stand there, no block does.
@@ -69,11 +73,34 @@ pub(crate) fn block_to<V: View>(view: &V, to: i64) -> Option<Block>
     block_at(view, to as u32)
 }
 
+/// Whether a byte that a block starts with is among the view's bytes below 4096, which are read into
+/// the piece. Where there is none, the view has no first block.
+fn has_first_byte<V: View>(view: &V, piece: &mut [u8]) -> bool
+    requires part { length piece.old ≡ min 4096 (length (V.bytes view.now)) }
+    ensures { result ≡ false → first_block (V.bytes view.now) ≡ None }
+{
+    view.read(0, piece);
+    memchr(FIRST_BYTE, piece).is_some()
+}
+
+/// Whether the view may have a first block. Where it may not, it has none: in an erased sector no
+/// place is tried.
+fn may_have_block<V: View>(view: &V) -> bool
+    ensures { result ≡ false → first_block (V.bytes view.now) ≡ None }
+{
+    let mut buffer = [0u8; 4096];
+    let size = view.len().min(4096) as usize;
+    has_first_byte(view, &mut buffer[..size])
+}
+
 /// The first block of the view: the one at the lowest multiple of 4 below 4096.
 pub(crate) fn first_block<V: View>(view: &V) -> Option<Block>
     ensures exact { result ≡ first_block (V.bytes view.now) }
     ensures whole { IfSome result (λ b. IsWholeBlock b) }
 {
+    if !may_have_block(view) {
+        return None;
+    }
     for place in 0..1024u32 {
         if let Some(block) = block_at(view, 4 * place) {
             return Some(block);

@@ -54,9 +54,10 @@ pub fn boot_units_stand_apart()
         → AreApart (tableless_unit n z).a w }
 {}
 
-/// The members of the boot units are windows of whole sectors, at least one, inside the flash. The
-/// members of a table without faults stand after the sectors that are not free. So they are apart
-/// from both table slots where the slots are those sectors.
+/// The members of the boot units of a sound table are windows of whole sectors, at least one, inside
+/// the flash. So are those without a table, in a flash of whole sectors. The members of a table
+/// without faults stand after the sectors that are not free. So they are apart from both table slots
+/// where the slots are those sectors.
 pub fn boot_units_are_placed()
     ensures faultless { (t : Table) (s m n z : ℕ) (cpu : Cpu) → table_fault t s m ≡ None
         → (k : ℕ) (u : SlotUnit) → slice_get (units (Some t) n z cpu) k ≡ Some u
