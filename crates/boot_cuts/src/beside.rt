@@ -102,7 +102,8 @@ fn answer_by(
     }
 }
 
-/// What a normal boot makes of a board, where the steps lie in this slot, if in one.
+/// What a normal boot makes of a board, where the steps lie in this slot, if in one. A digest is
+/// made only where the board does not remember it.
 pub fn answer_beside(
     board: &mut Watched<MemBoard>,
     pool: &mut SectorPool,
@@ -125,7 +126,10 @@ pub fn answer_beside(
 {
     match slot {
         Some(slot) => {
-            let verdict = verdict_beside(board.board(), pool, &ends.ends, slot, last);
+            let mut digests = board.take_digests();
+            let here = board.board();
+            let verdict = verdict_beside(here, pool, &mut digests, &ends.ends, slot, last);
+            board.give_digests(digests);
             answer_by(board, pool, ends, slot, verdict)
         }
         None => Ok(answer_on(board, pool, ends)),

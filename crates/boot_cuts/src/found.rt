@@ -19,7 +19,7 @@ use crate::runs::Run;
 use crate::tears::left_torn;
 use crate::walking::runs_on;
 use boot_machine::Watched;
-use boot_rules::{Decision, decide};
+use boot_rules::{Decision, Digests, decide_by};
 use boot_script::Script;
 use boot_sweep::{Ends as SweepEnds, Slot, slot_of};
 use boot_tape::{Move, Trace, copy_of, trace_on};
@@ -109,20 +109,24 @@ pub fn cuts_of(
     let copy = copy_of(alloc, &board)?;
     let mut beside = Watched::new(copy);
     let torn = left_torn(alloc, &trace.moves)?;
-    let stood = images_of(alloc, &board, &mut pool, cpu)?;
-    let left = images_of(alloc, &trace.board, &mut pool, cpu)?;
+    let mut before = Digests::none();
+    let mut after = Digests::none();
+    let stood = images_of(alloc, &board, &mut pool, &mut before, cpu)?;
+    let left = images_of(alloc, &trace.board, &mut pool, &mut after, cpu)?;
+    let kind = BootKind::Normal;
     let ends = Ends {
         start: &board,
         ends: SweepEnds {
             cpu,
-            former: decide(&board, &mut pool, cpu, BootKind::Normal),
-            finished: decide(&trace.board, &mut pool, cpu, BootKind::Normal),
+            former: decide_by(&board, &mut pool, &mut before, cpu, kind),
+            finished: decide_by(&trace.board, &mut pool, &mut after, cpu, kind),
             board: &trace.board,
         },
         torn: &torn,
         stood: &stood,
         left: &left,
     };
+    beside.give_digests(before);
     let steps = steps_of(alloc, &trace.moves)?;
     let slot = slot_beside(&board, cpu, &steps, &trace.moves);
     let runs = runs_on(

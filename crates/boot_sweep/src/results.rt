@@ -3,6 +3,7 @@
 ghost use Rattle.std.specs.Prelude.{◌≡◌, IsTrue, length};
 ghost use Rattle.sector_pool.specs.Keeping.{KeepsOut};
 ghost use Rattle.sector_pool.specs.Pool.{HasFree};
+ghost use Rattle.image_check.specs.Digests.{Knows};
 ghost use Rattle.boot_sweep.specs.Comparing.{is_whole, result_by};
 ghost use Rattle.pico_board.specs.declared.boot.BootKind.TheVariants.{Normal};
 ghost use Rattle.boot_sweep.specs.Verdicts.{verdict_by};
@@ -10,7 +11,7 @@ ghost use Rattle.boot_rules.specs.Choosing.{decision_in};
 ghost use Rattle.boot_rules.specs.Chosen.{Chosen};
 
 use crate::comparing::is_same_decision;
-use boot_rules::{Decision, decide};
+use boot_rules::{Decision, Digests, decide_by};
 use image_check::same_content;
 use pico_board::{Board, BootKind, Cpu, FlashView, Step};
 use sector_pool::SectorPool;
@@ -95,19 +96,23 @@ fn is_whole<B: Board, Z: Board>(board: &B, finished: &Z, cpu: Cpu, decision: &De
     }
 }
 
-/// Which decision a normal boot makes on the board.
+/// Which decision a normal boot makes on the board. A digest is made only where it is not
+/// remembered.
 pub fn verdict_on<B: Board, Z: Board>(
     board: &B,
     pool: &mut SectorPool,
+    digests: &mut Digests,
     ends: &Ends<'_, Z>,
 ) -> Verdict
     requires power { IsTrue (B.state board.now).powered }
     requires free { HasFree pool.old }
+    requires knows { Knows digests.old (B.state board.now).content }
     ensures exact { result ≡ verdict_by ends.now.former ends.now.finished
         (decision_in (B.state board.now).content ends.now.cpu Normal) }
+    ensures knows { Knows digests.new (B.state board.now).content }
     ensures kept { KeepsOut pool.old pool.new }
 {
-    let decision = decide(board, pool, ends.cpu, BootKind::Normal);
+    let decision = decide_by(board, pool, digests, ends.cpu, BootKind::Normal);
     if is_same_decision(&decision, &ends.former) {
         return Verdict::Before;
     }
@@ -156,6 +161,6 @@ pub fn result_on<B: Board, Z: Board>(
         (B.state board.now).content (Z.state ends.now.board.now).content }
     ensures kept { KeepsOut pool.old pool.new }
 {
-    let verdict = verdict_on(board, pool, ends);
+    let verdict = verdict_on(board, pool, &mut Digests::none(), ends);
     result_from(board, ends, verdict)
 }

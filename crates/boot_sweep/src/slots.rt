@@ -9,6 +9,7 @@ ghost use Rattle.pico_board.specs.Content.{Content};
 ghost use Rattle.block_codec.specs.Erased.{AreErased, IsErasedFrom};
 ghost use Rattle.sector_pool.specs.Keeping.{KeepsOut};
 ghost use Rattle.sector_pool.specs.Pool.{HasFree};
+ghost use Rattle.image_check.specs.Digests.{Knows as KnowsDigests};
 ghost use Rattle.boot_rules.specs.Choosing.{decision_in, images_in};
 ghost use Rattle.boot_rules.specs.Tables.{table_in};
 ghost use Rattle.boot_sweep.specs.Comparing.{result_by};
@@ -19,7 +20,7 @@ use crate::comparing::is_same_started;
 use crate::results::{CutResult, Ends, Verdict, result_from, result_on, verdict_on};
 use boot_rules::{boot_units_in, find_table};
 use boot_session::{is_confined, slot_among};
-use image_check::{Started, check};
+use image_check::{Digests, Started, check_by};
 use pico_board::{Board, Cpu, FlashView, SECTOR, Step, View, Window};
 use sector_pool::SectorPool;
 
@@ -99,21 +100,25 @@ fn is_erased<V: View>(view: &V) -> bool
 }
 
 /// The slot's image, with no trial image allowed, where the board has the table of the content
-/// before the session. None where it may have another one.
+/// before the session. None where it may have another one. A digest is made only where it is not
+/// remembered.
 fn image_beside<B: Board>(
     board: &B,
     pool: &mut SectorPool,
+    digests: &mut Digests,
     cpu: Cpu,
     slot: Slot,
 ) -> Option<Option<Started>>
     requires power { IsTrue (B.state board.now).powered }
     requires free { HasFree pool.old }
+    requires knows { KnowsDigests digests.old (B.state board.now).content }
     requires inside { slot.window.start + slot.window.len
         ≤ length (B.state board.now).content.flash }
     ensures table { (c : Content) → IsBeside c cpu slot (B.state board.now).content
         → IfSome result (λ image. table_in (B.state board.now).content ≡ table_in c) }
     ensures image { IfSome result (λ image. image
         ≡ images_in (B.state board.now).content cpu slot.window false) }
+    ensures knows { KnowsDigests digests.new (B.state board.now).content }
     ensures kept { KeepsOut pool.old pool.new }
 {
     let window = slot.window;
@@ -121,7 +126,7 @@ fn image_beside<B: Board>(
         return Some(None);
     }
     if slot.has_table || find_table(board).is_none() {
-        return Some(check(board, pool, window, cpu, false).ok());
+        return Some(check_by(board, pool, digests, window, cpu, false).ok());
     }
     None
 }
@@ -155,16 +160,18 @@ fn recalled(last: &Option<Last>, image: &Option<Started>) -> Option<Verdict>
 }
 
 /// Which decision a normal boot makes on the board, which is that of before where the slot has the
-/// image of before.
+/// image of before. A digest is made only where it is not remembered.
 pub fn verdict_beside<B: Board, Z: Board>(
     board: &B,
     pool: &mut SectorPool,
+    digests: &mut Digests,
     ends: &Ends<'_, Z>,
     slot: Slot,
     last: &mut Option<Last>,
 ) -> Verdict
     requires power { IsTrue (B.state board.now).powered }
     requires free { HasFree pool.old }
+    requires knows { KnowsDigests digests.old (B.state board.now).content }
     requires known { (c : Content) × IsKnown c ends.now.cpu ends.now.former ends.now.finished slot
         last.old (B.state board.now).content }
     ensures exact { result ≡ verdict_by ends.now.former ends.now.finished
@@ -173,15 +180,16 @@ pub fn verdict_beside<B: Board, Z: Board>(
         last.old (B.state board.now).content
         → IsKnown c ends.now.cpu ends.now.former ends.now.finished slot last.new
         (B.state board.now).content }
+    ensures knows { KnowsDigests digests.new (B.state board.now).content }
     ensures kept { KeepsOut pool.old pool.new }
 {
-    let Some(image) = image_beside(board, pool, ends.cpu, slot) else {
-        return verdict_on(board, pool, ends);
+    let Some(image) = image_beside(board, pool, digests, ends.cpu, slot) else {
+        return verdict_on(board, pool, digests, ends);
     };
     if let Some(verdict) = recalled(last, &image) {
         return verdict;
     }
-    let verdict = verdict_on(board, pool, ends);
+    let verdict = verdict_on(board, pool, digests, ends);
     *last = Some(Last { image, verdict });
     verdict
 }
@@ -211,7 +219,8 @@ pub fn result_beside<B: Board, Z: Board>(
 {
     match slot {
         Some(slot) => {
-            let verdict = verdict_beside(board, pool, ends, slot, last);
+            let mut digests = Digests::none();
+            let verdict = verdict_beside(board, pool, &mut digests, ends, slot, last);
             result_from(board, ends, verdict)
         }
         None => result_on(board, pool, ends),

@@ -5,6 +5,7 @@ ghost use Rattle.pico_board.specs.Cuts.{IsPattern};
 ghost use Rattle.pico_board.specs.MemBoard.{state_of};
 ghost use Rattle.sector_pool.specs.Keeping.{KeepsOut};
 ghost use Rattle.sector_pool.specs.Pool.{HasFree};
+ghost use Rattle.image_check.specs.Digests.{Knows};
 ghost use Rattle.boot_script.specs.Events.{EventView};
 ghost use Rattle.boot_session.specs.Standing.{IsUnarmed};
 ghost use Rattle.boot_tape.specs.Moving.{AreMovesIn, moves_from, traced_by};
@@ -15,16 +16,17 @@ ghost use Rattle.check_counts.specs.Counted.{AreCounted};
 ghost use Rattle.check_counts.specs.Judging.{IsReady, sides_by, told};
 ghost use Rattle.check_counts.specs.Tallies.{tally_before, tally_of, with_all};
 
+use crate::caveats::caveats_by;
 use crate::counts::Counts;
 use crate::judging::Counting;
 use crate::seen::seen_first;
-use boot_caveats::caveats_of;
 use boot_cuts::{Class, Ends, class_on, images_of, left_torn, pool_of, slot_beside, steps_of};
 use boot_machine::Watched;
-use boot_rules::{Decision, decide, find_table};
+use boot_rules::{Decision, decide_by, find_table};
 use boot_sweep::{Ends as SweepEnds, each_cut};
 use boot_tape::{Move, Trace, copy_of};
 use check_data::DataWindow;
+use image_check::Digests;
 use pico_board::{BootKind, Cpu, MemBoard};
 use sector_pool::SectorPool;
 use std::alloc::{AllocError, Global};
@@ -42,19 +44,34 @@ pub struct Counted {
     pub counts: Counts,
 }
 
+/// What is remembered of the digests before a script and after it.
+#[derive(Drop)]
+struct EndDigests {
+    before: Digests,
+    after: Digests,
+}
+
 /// The counts before any cut.
-fn counts_before(counting: &Counting<'_>, pool: &mut SectorPool) -> Result<Counts, AllocError>
+fn counts_before(
+    counting: &Counting<'_>,
+    pool: &mut SectorPool,
+    digests: &mut EndDigests,
+) -> Result<Counts, AllocError>
     requires start { IsTrue (state_of counting.now.ends.start.now).powered }
     requires end_ { IsTrue (state_of counting.now.ends.ends.board.now).powered }
     requires free { HasFree pool.old }
+    requires before { Knows digests.old.before (state_of counting.now.ends.start.now).content }
+    requires after { Knows digests.old.after
+        (state_of counting.now.ends.ends.board.now).content }
     ensures exact { IfOk result (λ counts. tally_of counts ≡ tally_before (sides_by counting.now)) }
+    ensures before { Knows digests.new.before (state_of counting.now.ends.start.now).content }
     ensures kept { KeepsOut pool.old pool.new }
 {
     let alloc = counting.alloc;
     let ends = &counting.ends;
     let cpu = ends.ends.cpu;
-    let former = caveats_of(alloc, ends.start, pool, cpu, BootKind::Normal)?;
-    let end = caveats_of(alloc, ends.ends.board, pool, cpu, BootKind::Normal)?;
+    let former = caveats_by(alloc, ends.start, pool, &mut digests.before, cpu)?;
+    let end = caveats_by(alloc, ends.ends.board, pool, &mut digests.after, cpu)?;
     let seen = seen_first(alloc, &former, &end)?;
     Counts::begin(alloc, counting.windows.len(), seen)
 }
@@ -63,6 +80,7 @@ fn counts_before(counting: &Counting<'_>, pool: &mut SectorPool) -> Result<Count
 fn counts_by(
     counting: &Counting<'_>,
     pool: &mut SectorPool,
+    digests: EndDigests,
     moves: &[Move<'_>],
     pattern: &[u8],
 ) -> Result<Counts, AllocError>
@@ -73,6 +91,8 @@ fn counts_by(
     requires free { HasFree pool.old }
     requires serves { IsReady counting.now
         (length (state_of counting.now.ends.start.now).content.flash) }
+    requires before { Knows digests.before (state_of counting.now.ends.start.now).content }
+    requires after { Knows digests.after (state_of counting.now.ends.ends.board.now).content }
     ensures told { IfOk result (λ counts. tally_of counts
         ≡ with_all (tally_before (sides_by counting.now)) (map (told counting.now)
         (cut_contents pattern.now (traced_by (state_of counting.now.ends.start.now).content
@@ -84,7 +104,9 @@ fn counts_by(
     let mut beside = Watched::new(copy);
     let steps = steps_of(counting.alloc, moves)?;
     let slot = slot_beside(board, counting.ends.ends.cpu, &steps, moves);
-    let mut counts = counts_before(counting, pool)?;
+    let mut digests = digests;
+    let mut counts = counts_before(counting, pool, &mut digests)?;
+    beside.give_digests(digests.before);
     each_cut(
         &mut beside,
         pool,
@@ -121,16 +143,19 @@ pub fn counts_of<'a>(
 {
     let mut pool = pool_of(alloc)?;
     let torn = left_torn(alloc, &trace.moves)?;
-    let stood = images_of(alloc, board, &mut pool, cpu)?;
-    let left = images_of(alloc, &trace.board, &mut pool, cpu)?;
+    let mut before = Digests::none();
+    let mut after = Digests::none();
+    let stood = images_of(alloc, board, &mut pool, &mut before, cpu)?;
+    let left = images_of(alloc, &trace.board, &mut pool, &mut after, cpu)?;
+    let kind = BootKind::Normal;
     let counting = Counting {
         alloc,
         ends: Ends {
             start: board,
             ends: SweepEnds {
                 cpu,
-                former: decide(board, &mut pool, cpu, BootKind::Normal),
-                finished: decide(&trace.board, &mut pool, cpu, BootKind::Normal),
+                former: decide_by(board, &mut pool, &mut before, cpu, kind),
+                finished: decide_by(&trace.board, &mut pool, &mut after, cpu, kind),
                 board: &trace.board,
             },
             torn: &torn,
@@ -141,7 +166,8 @@ pub fn counts_of<'a>(
         windows,
         loose,
     };
-    let counts = counts_by(&counting, &mut pool, &trace.moves, pattern)?;
+    let digests = EndDigests { before, after };
+    let counts = counts_by(&counting, &mut pool, digests, &trace.moves, pattern)?;
     let end = &counting.ends.ends.finished;
     let end_class = class_on(&trace.board, &mut pool, &counting.ends, end);
     Ok(Counted {

@@ -1,5 +1,6 @@
 use Rattle.std.proofs.Common.{◌∙◌, None, ap, length, refl, subst, sym}
 use Rattle.std.specs.Prelude.{map}
+use Rattle.image_check.specs.Digests.{Knows as KnowsDigests}
 use Rattle.boot_sweep.specs.Verdicts.{Knows}
 use Rattle.boot_sweep.proofs.KnownLemmas.{first-known}
 use Rattle.boot_cuts.specs.Beside.{AreMovesBeside}
@@ -17,11 +18,17 @@ use Rattle.pico_board.specs.MemBoard.{state_of}
 use Rattle.boot_cuts.proofs.FoundLemmas.{end-found, moves-few, moves-inside, runs-found, steps-found, torn-found}
 use Rattle.boot_cuts.proofs.found.cuts_of.Goals as goal
 
+pub give_digests-requires-clause-knows : goal.give_digests-requires-clause-knows
+give_digests-requires-clause-knows c =
+    subst (λ d. KnowsDigests c.decide_by.new.digests d)
+    (sym (ap (λ (b : MemBoard). (state_of b).content) c.new-beside.ensures ∙ c.in_ok-copy.ensures.same))
+    c.decide_by.ensures.knows
+
 pub runs_on-requires-clause-range : goal.runs_on-requires-clause-range
 runs_on-requires-clause-range c =
     moves-inside (state_of c.args.board).content c.args.cpu c.requires.trace.0 c.args.trace.now c.deref-8.result.now
-    (length (state_of c.new-beside.result).content.flash) c.requires.trace.1 c.deref-8.ensures.value
-    (ap (λ (b : MemBoard). length (state_of b).content.flash) c.new-beside.ensures
+    (length (state_of c.give_digests.new.self).content.flash) c.requires.trace.1 c.deref-8.ensures.value
+    (ap (λ (b : MemBoard). length (state_of b).content.flash) (c.give_digests.ensures.same ∙ c.new-beside.ensures)
     ∙ ap (λ (x : Content). length x.flash) c.in_ok-copy.ensures.same)
 
 pub runs_on-requires-clause-few : goal.runs_on-requires-clause-few
@@ -32,9 +39,10 @@ runs_on-requires-clause-few c =
 pub runs_on-requires-clause-known : goal.runs_on-requires-clause-known
 runs_on-requires-clause-known c =
     let start = (state_of c.args.board).content in
-    subst (λ d. Knows start c.args.cpu c.decide.result c.decide-2.result c.slot_beside-slot.result None d)
-    (sym (ap (λ (b : MemBoard). (state_of b).content) c.new-beside.ensures ∙ c.in_ok-copy.ensures.same))
-    (first-known start c.args.cpu c.decide.result c.decide-2.result c.deref-6.result.now c.slot_beside-slot.result
+    subst (λ d. Knows start c.args.cpu c.decide_by.result c.decide_by-2.result c.slot_beside-slot.result None d)
+    (sym (ap (λ (b : MemBoard). (state_of b).content) (c.give_digests.ensures.same ∙ c.new-beside.ensures)
+    ∙ c.in_ok-copy.ensures.same))
+    (first-known start c.args.cpu c.decide_by.result c.decide_by-2.result c.deref-6.result.now c.slot_beside-slot.result
     c.args.board.sizes c.slot_beside-slot.ensures.slot)
 
 pub runs_on-requires-clause-slot : goal.runs_on-requires-clause-slot
@@ -59,11 +67,12 @@ returns c = λ events is.
           (c.in_ok-runs.ensures.told
           ∙ ap (λ x. runs_of (map (answer_of start z torn cpu) (cut_contents c.args.pattern.now
           (traced_by x (moves_from c.deref-8.result.now)))))
-          (ap (λ (b : MemBoard). (state_of b).content) c.new-beside.ensures ∙ c.in_ok-copy.ensures.same));
-      former = c.decide.ensures.function;
-      finished = c.decide-2.ensures.function ∙ ap (λ x. decision_in x cpu Normal) is.content;
+          (ap (λ (b : MemBoard). (state_of b).content) (c.give_digests.ensures.same ∙ c.new-beside.ensures)
+          ∙ c.in_ok-copy.ensures.same));
+      former = c.decide_by.ensures.function;
+      finished = c.decide_by-2.ensures.function ∙ ap (λ x. decision_in x cpu Normal) is.content;
       end_ = c.class_on-end.ensures.exact
-          ∙ (end-found start z torn cpu c.decide.result c.decide-2.result c.decide.ensures.function c.decide-2.ensures.function
+          ∙ (end-found start z torn cpu c.decide_by.result c.decide_by-2.result c.decide_by.ensures.function c.decide_by-2.ensures.function
           ∙ (ap (λ x. class_of start x torn cpu x) is.content
           ∙ ap (λ x. class_of start (trace start cpu events).last x cpu (trace start cpu events).last) torn_is));
     }

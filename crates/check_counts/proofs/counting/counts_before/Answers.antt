@@ -15,6 +15,6 @@ returns-clause-exact c =
     (λ counts is. is
     ∙ ap (begun n)
     (c.in_ok-seen.ensures
-    ∙ (ap (λ l. seen_first l c.deref-2.result.now) (c.deref.ensures.value ∙ c.in_ok-former.ensures.function)
-    ∙ ap (seen_first (caveats_on s.cpu s.first)) (c.deref-2.ensures.value ∙ c.in_ok-end.ensures.function))))
+    ∙ (ap (λ l. seen_first l c.deref-2.result.now) (c.deref.ensures.value ∙ c.in_ok-former.ensures.exact)
+    ∙ ap (seen_first (caveats_on s.cpu s.first)) (c.deref-2.ensures.value ∙ c.in_ok-end.ensures.exact))))
     c.begin.ensures

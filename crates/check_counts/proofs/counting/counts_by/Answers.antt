@@ -1,5 +1,6 @@
-use Rattle.std.proofs.Common.{◌∙◌, ap}
+use Rattle.std.proofs.Common.{◌∙◌, ap, subst, sym}
 use Rattle.std.specs.Prelude.{map}
+use Rattle.image_check.specs.Digests.{Knows}
 use Rattle.pico_board.specs.declared.mem_board.MemBoard.{MemBoard}
 use Rattle.pico_board.specs.Content.{Content}
 use Rattle.pico_board.specs.MemBoard.{state_of}
@@ -15,16 +16,23 @@ pub each_cut-requires-clause-slot : goal.each_cut-requires-clause-slot
 each_cut-requires-clause-slot c =
     beside-lie c.slot_beside-slot.result (moves_from c.args.moves.now) c.slot_beside-slot.ensures.moves
 
+pub give_digests-requires-clause-knows : goal.give_digests-requires-clause-knows
+give_digests-requires-clause-knows c =
+    subst (λ d. Knows c.counts_before.new.digests.before d)
+    (sym (ap (λ (b : MemBoard). (state_of b).content) c.new-beside.ensures ∙ c.in_ok-copy.ensures.same))
+    c.in_ok-counts.ensures.before
+
 pub returns-clause-told : goal.returns-clause-told
 returns-clause-told c =
     let counting = c.args.counting.now in
     let pattern = c.args.pattern.now in
     let moves = moves_from c.args.moves.now in
-    let beside = (state_of c.new-beside.result).content in
+    let beside = (state_of c.give_digests.new.self).content in
     facts-taken (told counting) pattern c.in_ok-counts.counts beside moves c.each_cut.new.found
     c.in_ok-each_cut.ensures.taken
     ∙ (ap (λ (t : Tally). with_all t (map (told counting) (cut_contents pattern (traced_by beside moves))))
     c.in_ok-counts.ensures.exact
     ∙ ap (λ (x : Content). with_all (tally_before (sides_by counting))
     (map (told counting) (cut_contents pattern (traced_by x moves))))
-    (ap (λ (b : MemBoard). (state_of b).content) c.new-beside.ensures ∙ c.in_ok-copy.ensures.same))
+    (ap (λ (b : MemBoard). (state_of b).content) (c.give_digests.ensures.same ∙ c.new-beside.ensures)
+    ∙ c.in_ok-copy.ensures.same))

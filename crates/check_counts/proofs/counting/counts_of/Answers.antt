@@ -18,10 +18,10 @@ returns c = λ events is.
     let torn = c.deref-2.result.now in
     let torn_is = torn-found start cpu events c.args.trace.now torn c.deref.result.now is c.deref.ensures.value
     (c.deref-2.ensures.value ∙ c.in_ok-torn.ensures) in record {
-      former = c.decide.ensures.function;
-      finished = c.decide-2.ensures.function ∙ ap (λ (x : Content). decision_in x cpu Normal) is.content;
+      former = c.decide_by.ensures.function;
+      finished = c.decide_by-2.ensures.function ∙ ap (λ (x : Content). decision_in x cpu Normal) is.content;
       end_class = c.class_on-end_class.ensures.exact
-          ∙ (end-found start z torn cpu c.decide.result c.decide-2.result c.decide.ensures.function c.decide-2.ensures.function
+          ∙ (end-found start z torn cpu c.decide_by.result c.decide_by-2.result c.decide_by.ensures.function c.decide_by-2.ensures.function
           ∙ (ap (λ (x : Content). class_of start x torn cpu x) is.content
           ∙ ap (λ x. class_of start (trace start cpu events).last x cpu (trace start cpu events).last) torn_is));
       counts = counts-of-trace start cpu events c.args.pattern.now c.args.windows.now c.args.loose.now c.args.trace.now z
