@@ -7,6 +7,7 @@ ghost use Rattle.sector_pool.specs.Pool.{HasFree};
 ghost use Rattle.boot_script.specs.Events.{EventView};
 ghost use Rattle.boot_script.specs.Scripts.{script_events};
 ghost use Rattle.boot_session.specs.Standing.{IsUnarmed};
+ghost use Rattle.boot_sweep.specs.EachCut.{LieIn};
 ghost use Rattle.boot_sweep.specs.Verdicts.{IsSweptSlot};
 ghost use Rattle.boot_cuts.specs.Beside.{AreMovesBeside};
 ghost use Rattle.boot_cuts.specs.Found.{AreCutsFound, AreCutsOf};
@@ -73,6 +74,7 @@ pub fn slot_beside(board: &MemBoard, cpu: Cpu, steps: &[Step], moves: &[Move<'_>
     requires steps { steps.now ≡ done_steps (moves_from moves.now) }
     ensures slot { IfSome result (IsSweptSlot (state_of board.now).content cpu steps.now) }
     ensures moves { AreMovesBeside result moves.now }
+    ensures lies { LieIn result (moves_from moves.now) }
 {
     if steps.len() == moves.len() {
         slot_of(board, cpu, steps)

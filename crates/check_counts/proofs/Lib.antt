@@ -1,6 +1,5 @@
 mod CountLemmas
 mod StepLemmas
-mod SlotLemmas
 mod SeenLemmas
 mod TallyLemmas
 mod JudgeLemmas

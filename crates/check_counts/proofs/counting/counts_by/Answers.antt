@@ -8,13 +8,11 @@ use Rattle.boot_tape.specs.Moving.{moves_from, traced_by}
 use Rattle.boot_cuts.specs.Contents.{cut_contents}
 use Rattle.check_counts.specs.Judging.{sides_by, told}
 use Rattle.check_counts.specs.Tallies.{Tally, tally_before, with_all}
-use Rattle.check_counts.proofs.SlotLemmas.{beside-lie}
 use Rattle.check_counts.proofs.TallyLemmas.{facts-taken}
 use Rattle.check_counts.proofs.counting.counts_by.Goals as goal
 
 pub each_cut-requires-clause-slot : goal.each_cut-requires-clause-slot
-each_cut-requires-clause-slot c =
-    beside-lie c.slot_beside-slot.result (moves_from c.args.moves.now) c.slot_beside-slot.ensures.moves
+each_cut-requires-clause-slot c = c.slot_beside-slot.ensures.lies
 
 pub give_digests-requires-clause-knows : goal.give_digests-requires-clause-knows
 give_digests-requires-clause-knows c =
