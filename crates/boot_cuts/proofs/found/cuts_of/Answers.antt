@@ -18,8 +18,8 @@ use Rattle.pico_board.specs.MemBoard.{state_of}
 use Rattle.boot_cuts.proofs.FoundLemmas.{end-found, moves-few, moves-inside, runs-found, steps-found, torn-found}
 use Rattle.boot_cuts.proofs.found.cuts_of.Goals as goal
 
-pub give_digests-requires-clause-knows : goal.give_digests-requires-clause-knows
-give_digests-requires-clause-knows c =
+pub give_digests-requires : goal.give_digests-requires
+give_digests-requires c =
     subst (λ d. KnowsDigests c.decide_by.new.digests d)
     (sym (ap (λ (b : MemBoard). (state_of b).content) c.new-beside.ensures ∙ c.in_ok-copy.ensures.same))
     c.decide_by.ensures.knows

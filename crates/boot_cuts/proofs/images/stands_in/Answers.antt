@@ -6,6 +6,9 @@ use Rattle.boot_cuts.specs.Standings.{IsStanding}
 use Rattle.boot_cuts.proofs.StandingLemmas.{same-window}
 use Rattle.boot_cuts.proofs.images.stands_in.Goals as goal
 
+pub standing_in-standing-requires-clause-knows : goal.standing_in-standing-requires-clause-knows
+standing_in-standing-requires-clause-knows c = c.none-digests.ensures.knows (state_of c.args.board.now).content
+
 pub returns-then-is_same-clause-exact : goal.returns-then-is_same-clause-exact
 returns-then-is_same-clause-exact c =
     let content = (state_of c.args.board.now).content in

@@ -14,8 +14,8 @@ use Rattle.check_counts.proofs.counting.counts_by.Goals as goal
 pub each_cut-requires-clause-slot : goal.each_cut-requires-clause-slot
 each_cut-requires-clause-slot c = c.slot_beside-slot.ensures.lies
 
-pub give_digests-requires-clause-knows : goal.give_digests-requires-clause-knows
-give_digests-requires-clause-knows c =
+pub give_digests-requires : goal.give_digests-requires
+give_digests-requires c =
     subst (λ d. Knows c.counts_before.new.digests.before d)
     (sym (ap (λ (b : MemBoard). (state_of b).content) c.new-beside.ensures ∙ c.in_ok-copy.ensures.same))
     c.in_ok-counts.ensures.before
