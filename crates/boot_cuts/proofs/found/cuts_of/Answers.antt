@@ -18,11 +18,18 @@ use Rattle.pico_board.specs.MemBoard.{state_of}
 use Rattle.boot_cuts.proofs.FoundLemmas.{end-found, moves-few, moves-inside, runs-found, steps-found, torn-found}
 use Rattle.boot_cuts.proofs.found.cuts_of.Goals as goal
 
+pub images_of-requires-clause-knows : goal.images_of-requires-clause-knows
+images_of-requires-clause-knows c = c.none-before.ensures.knows (state_of c.args.board).content
+
+pub images_of-requires-2-clause-knows : goal.images_of-requires-2-clause-knows
+images_of-requires-2-clause-knows c = c.none-after.ensures.knows (state_of c.args.trace.now.board).content
+
 pub give_digests-requires : goal.give_digests-requires
-give_digests-requires c =
-    subst (λ d. KnowsDigests c.decide_by.new.digests d)
-    (sym (ap (λ (b : MemBoard). (state_of b).content) c.new-beside.ensures ∙ c.in_ok-copy.ensures.same))
-    c.decide_by.ensures.knows
+give_digests-requires c = record {
+  knows = subst (λ d. KnowsDigests c.decide_by.new.digests d)
+      (sym (ap (λ (b : MemBoard). (state_of b).content) c.new-beside.ensures ∙ c.in_ok-copy.ensures.same))
+      c.decide_by.ensures.knows;
+}
 
 pub runs_on-requires-clause-range : goal.runs_on-requires-clause-range
 runs_on-requires-clause-range c =

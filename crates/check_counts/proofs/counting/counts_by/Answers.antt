@@ -15,10 +15,11 @@ pub each_cut-requires-clause-slot : goal.each_cut-requires-clause-slot
 each_cut-requires-clause-slot c = c.slot_beside-slot.ensures.lies
 
 pub give_digests-requires : goal.give_digests-requires
-give_digests-requires c =
-    subst (λ d. Knows c.counts_before.new.digests.before d)
-    (sym (ap (λ (b : MemBoard). (state_of b).content) c.new-beside.ensures ∙ c.in_ok-copy.ensures.same))
-    c.in_ok-counts.ensures.before
+give_digests-requires c = record {
+  knows = subst (λ d. Knows c.counts_before.new.digests.before d)
+      (sym (ap (λ (b : MemBoard). (state_of b).content) c.new-beside.ensures ∙ c.in_ok-copy.ensures.same))
+      c.in_ok-counts.ensures.before;
+}
 
 pub returns-clause-told : goal.returns-clause-told
 returns-clause-told c =

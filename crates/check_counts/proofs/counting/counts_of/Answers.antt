@@ -10,6 +10,12 @@ use Rattle.check_counts.specs.Tallies.{tally_of}
 use Rattle.check_counts.proofs.TallyLemmas.{counts-of-trace}
 use Rattle.check_counts.proofs.counting.counts_of.Goals as goal
 
+pub images_of-requires-clause-knows : goal.images_of-requires-clause-knows
+images_of-requires-clause-knows c = c.none-before.ensures.knows (state_of c.args.board.now).content
+
+pub images_of-requires-2-clause-knows : goal.images_of-requires-2-clause-knows
+images_of-requires-2-clause-knows c = c.none-after.ensures.knows (state_of c.args.trace.now.board).content
+
 pub returns : goal.returns
 returns c = λ events is.
     let start = (state_of c.args.board.now).content in
