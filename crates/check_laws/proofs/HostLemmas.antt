@@ -23,7 +23,7 @@ record IsSplit (c : Content) (cpu : Cpu) (place : StateView) (asked : Option Boo
   pub served : AreServed c cpu place asked hosted
   pub rest : AllByRecursion (λ (event : EventView). is_own event ≡ true) own
 
-abbrev AreOwn : List EventView → Type 0
+abbrev pub AreOwn : List EventView → Type 0
 AreOwn events = AllByRecursion (λ (event : EventView). is_own event ≡ true) events
 
 -- an event that an image does by itself is for no host
@@ -105,7 +105,7 @@ served-split c cpu place asked (event ∷ hosted) own served rest =
     (served-split (after_all c s.steps) cpu s.place s.boot hosted own served.2 rest)
 
 -- the first two events of a host's script
-hosted-is : (events others : List EventView) → hosted_events events ≡ Some others
+pub hosted-is : (events others : List EventView) → hosted_events events ≡ Some others
     → events ≡ EventView.PowerOn ∷ (EventView.Reset Bootsel ∷ others)
 hosted-is [] others is = cc
 hosted-is (EventView.End ∷ events) others is = cc

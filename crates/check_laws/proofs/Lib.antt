@@ -1,5 +1,4 @@
 mod PoolLemmas
-mod ServingLemmas
 pub mod HostLemmas
 pub mod LawLemmas
 mod StagingLemmas
@@ -7,8 +6,7 @@ pub mod ShortLemmas
 pub mod TripleLemmas
 pub mod OwnLemmas
 pub mod FirstLemmas
-mod CarryLemmas
-mod RecordLemmas
+mod NotedLemmas
 pub mod WriteLawLemmas
 pub mod MadeLemmas
 pub mod PassLemmas

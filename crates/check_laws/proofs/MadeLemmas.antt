@@ -41,7 +41,7 @@ made_in m [] = []
 made_in m (event ∷ events) = made_at m event ∷ made_in (moved_machine m event).next events
 
 -- the content behind an event
-next-content : (m : MachineView) (event : EventView)
+pub next-content : (m : MachineView) (event : EventView)
     → (moved_machine m event).next.content ≡ after_moves m.content (event_moves m event)
 unfolding moved_machine
 next-content m event =
@@ -224,13 +224,16 @@ none-moves m event steps none =
     moves-none (Some cut) = refl
 
 -- only a host's event has moves of its own
+pub none-own : (m : MachineView) (event : EventView) → is_hosted event ≡ false → own_moves m event ≡ []
+none-own m event other =
+    none-moves m event (own_steps m event) (ap served_steps (unserved m.content m.cpu m.place event other))
+
 own-hosted : (m : MachineView) (event : EventView) → own_moves m event ≢ [] → is_hosted event ≡ true
 own-hosted m event some = go (is_hosted event) refl
   where
     go : (b : Bool) → is_hosted event ≡ b → is_hosted event ≡ true
     go true is = is
-    go false is =
-        absurd (some (none-moves m event (own_steps m event) (ap served_steps (unserved m.content m.cpu m.place event is))))
+    go false is = absurd (some (none-own m event is))
 
 -- one of the own moves of an event completes or is torn, or one of those of a later event
 abbrev writes_at : MachineView → List EventView → Bool

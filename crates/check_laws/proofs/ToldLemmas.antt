@@ -37,7 +37,7 @@ use Rattle.check_laws.specs.Told.{ends_on, first_at, hosts_told, is_staged, is_s
 use Rattle.check_laws.proofs.FirstLemmas.{first-content, one-session-of}
 use Rattle.check_laws.proofs.LawLemmas.{none-kept, slot-is-law}
 use Rattle.check_laws.proofs.MadeLemmas.{host-writes}
-use Rattle.check_laws.proofs.RecordLemmas.{law-told, law-written, no-host, none-written}
+use Rattle.check_laws.proofs.NotedLemmas.{law-told, law-written, no-host, none-written}
 use Rattle.check_laws.proofs.StagingLemmas.{end-staged, ends-is, no-ends, off-is, one-first, other-end, unlooped, unstaged}
 
 -- the last step programs the page, and none before it does, by one step more
@@ -168,11 +168,11 @@ hosts-told : (c : Content) (cpu : Cpu) (events : List EventView) → IsContent c
     → is_hosted_on (first_content c cpu) cpu (hosted_events events) ≡ hosts
     → IsWritten c cpu events (hosts_told c cpu events hosts)
 hosts-told c cpu events right true is =
-    law-written c cpu events (first_content c cpu) refl true (sym is) refl
+    law-written c cpu events true (sym is) refl
     (hosts_told c cpu events true)
     (steps-told (first_content c cpu) cpu (host_steps c cpu events) (first-content c cpu right)
     (session_slot (first_content c cpu) cpu (host_steps c cpu events)) refl)
-hosts-told c cpu events right false is = no-host c cpu events (first_content c cpu) refl false (sym is) refl
+hosts-told c cpu events right false is = no-host c cpu events false (sym is) refl
 
 -- whether a host writes, and the law where it does
 abbrev writes : Content → Cpu → List EventView → Bool

@@ -1,25 +1,22 @@
--- Whether a script is a host's, as a function; and what the code's machine stands for between the
--- events of a host.
-use Rattle.std.specs.Prelude.{◌≡◌, ◌&&◌, ◌||◌, not, is_none, Bool, true, false, if◌then◌else◌, List, [], ◌∷◌, take, drop, Option, Some, None}
+-- Whether a script is a host's, and what its host does, as functions: by the events, and by what is
+-- noted of each and the moves.
+use Rattle.std.specs.Prelude.{ℕ, ◌&&◌, ◌||◌, not, is_none, Bool, true, false, if◌then◌else◌, List, [], ◌∷◌, ◌++◌, take, drop, Option, Some, None}
+use Rattle.std.specs.List.{list_any}
+use Rattle.pico_board.specs.declared.Step.{Step}
 use Rattle.pico_board.specs.declared.boot.Cpu.{Cpu}
 use Rattle.pico_board.specs.declared.boot.BootKind.{BootKind}
 use Rattle.pico_board.specs.declared.boot.BootKind.TheVariants.{Bootsel}
-use Rattle.pico_board.specs.declared.mem_board.MemBoard.{MemBoard}
-use Rattle.pico_board.specs.MemBoard.{state_of}
 use Rattle.pico_board.specs.Content.{Content}
 use Rattle.pico_board.specs.Steps.{after_all}
 use Rattle.boot_script.specs.Events.{EventView, PowerOn, Reset}
-use Rattle.boot_machine.specs.declared.parts.Parts.{Parts}
 use Rattle.boot_machine.specs.Boots.{entered}
 use Rattle.boot_machine.specs.Machines.{StateView}
-use Rattle.boot_machine.specs.Serving.{ServedEvent, is_hosted}
-use Rattle.boot_machine.specs.Standing.{StandsAt}
-use Rattle.boot_session.specs.Standing.{IsUnarmed}
-use Rattle.std.specs.List.{list_any}
+use Rattle.boot_machine.specs.Serving.{is_hosted}
 use Rattle.boot_sweep.specs.Moving.{MoveView}
+use Rattle.boot_tape.specs.declared.notes.Behind.{Behind}
+use Rattle.boot_tape.specs.declared.notes.Behind.TheVariants as behinds
 use Rattle.boot_tape.specs.declared.notes.Note.{Note}
-use Rattle.boot_tape.specs.Moving.{does_step}
-use Rattle.check_laws.specs.declared.hosting.Heard.{Heard}
+use Rattle.boot_tape.specs.Moving.{does_step, done_steps}
 use Rattle.check_laws.specs.Hosts.{is_own, served_at}
 
 -- the events from this place on are those of a host, where the one before them asked for this boot
@@ -47,28 +44,38 @@ abbrev pub is_hosted_on : Content → Cpu → Option (List EventView) → Bool
 is_hosted_on c cpu None = false
 is_hosted_on c cpu (Some events) = hosting c cpu (entered c) None false events
 
--- the parts are in this state, over a powered board of which no cut is armed
-pub record IsAt (parts : Parts MemBoard) (cpu : Cpu) (place : StateView) : Type 0 where
-  pub ready : IsUnarmed (state_of parts.board)
-  pub cpu_is : parts.cpu ≡ cpu
-  pub stands : StandsAt parts place
+-- a boot makes moves that are not a host's own
+abbrev pub is_boot : Behind → Bool
+is_boot (behinds.Boot kind) = true
+is_boot behinds.Nothing = false
+is_boot (behinds.Buy image) = false
 
--- the parts did what was served, and the boot that it asks for is answered
-pub record HasServedAll (old : Parts MemBoard) (cpu : Cpu) (s : ServedEvent)
-    (asked : Option BootKind) (new : Parts MemBoard) : Type 0 where
-  pub at : IsAt new cpu s.place
-  pub content : (state_of new.board).content ≡ after_all (state_of old.board).content s.steps
-  pub asks : asked ≡ s.boot
+-- a host's script may go on with the event, where the host's events are over or not
+abbrev pub fits : Bool → EventView → Bool
+fits over event = is_own event || (not over && is_hosted event)
 
--- A further event was heard behind one that asked for this boot or for none. Where it is refused, so
--- is every script that goes on with it. Otherwise the parts are in the state behind it, and what is
--- said of the events behind it is said of it and them.
-abbrev pub Hears : Parts MemBoard → Cpu → StateView → Option BootKind → Bool → EventView
-    → Option Heard → Parts MemBoard → Type 0
-Hears old cpu place asked over event None new =
-    (others : List EventView)
-    → hosting (state_of old.board).content cpu place asked over (event ∷ others) ≡ false
-Hears old cpu place asked over event (Some next) new =
-    (here : StateView) × IsAt new cpu here
-    × ((others : List EventView) → hosting (state_of new.board).content cpu here next.asked next.over others
-    ≡ hosting (state_of old.board).content cpu place asked over (event ∷ others))
+-- the host's events are over behind an event of this note: it is none of them, or asks for a boot
+abbrev pub ends : EventView → Note → Bool
+ends event note = not (is_hosted event) || is_boot note.behind
+
+-- the same as `hosting`, by what is noted of each event
+abbrev pub are_hosts : Bool → List EventView → List Note → Bool
+are_hosts over [] notes = true
+are_hosts over (event ∷ events) [] = true
+are_hosts over (event ∷ events) (note ∷ notes) =
+    fits over event && are_hosts (ends event note) events notes
+
+abbrev pub is_noted : Option (List EventView) → List Note → Bool
+is_noted None notes = false
+is_noted (Some events) notes = are_hosts false events notes
+
+-- the steps of a host's own that complete, of the moves of noted events
+abbrev pub host_done : List Note → List MoveView → List Step
+host_done [] moves = []
+host_done (note ∷ notes) moves =
+    done_steps (take note.own (take note.moves moves)) ++ host_done notes (drop note.moves moves)
+
+-- how many moves the first of noted events does
+abbrev pub boot_count : List Note → ℕ
+boot_count [] = 0
+boot_count (note ∷ notes) = note.moves

@@ -11,7 +11,6 @@ ghost use Rattle.boot_sweep.specs.Moving.{IsMoveIn};
 ghost use Rattle.check_laws.specs.Made.{does_step, law_with, laws_by, laws_over, laws_with, made_by, made_of, no_writes};
 ghost use Rattle.check_laws.specs.OwnLaws.{IsBootLaw, IsBuyLaw};
 
-use crate::hosting::pool_of;
 use crate::own::{boot_kept, raises_own};
 use boot_sweep::{complete, cut};
 use boot_tape::{Behind, Move, Note, Trace, copy_of};
@@ -19,6 +18,14 @@ use check_require::LawOfWrites;
 use pico_board::{Cpu, MemBoard, Step};
 use sector_pool::SectorPool;
 use std::alloc::{AllocError, Global};
+
+/// A pool with free sectors.
+#[tactic(auto, using(crate::proofs::PoolLemmas::one_free))]
+pub(crate) fn pool_of(alloc: Global) -> Result<SectorPool, AllocError>
+    ensures { IfOk result HasFree }
+{
+    SectorPool::make(alloc, 2)
+}
 
 /// Which laws speak of the writes of a script's boots, and of its buys.
 #[derive(Clone, Copy, PartialEq, Eq, Debug)]
@@ -121,7 +128,7 @@ fn do_move(board: &mut MemBoard, moved: &Move<'_>)
 }
 
 /// Does moves, one after another.
-fn do_moves(board: &mut MemBoard, moves: &[Move<'_>])
+pub(crate) fn do_moves(board: &mut MemBoard, moves: &[Move<'_>])
     requires ready { IsUnarmed (state_of board.old) }
     requires range { AreMovesIn (length (state_of board.old).content.flash) moves.now }
     ensures ready { IsUnarmed (state_of board.new) }
@@ -146,14 +153,23 @@ fn add_done(done: &mut Vec<Step>, moved: &Move<'_>) -> Result<(), AllocError>
     Ok(())
 }
 
+/// Adds the steps of the moves that complete.
+pub(crate) fn add_all(done: &mut Vec<Step>, moves: &[Move<'_>]) -> Result<(), AllocError>
+    ensures { OnOk result (done.new.items
+        ≡ done.old.items ++ done_steps (moves_from moves.now)) }
+{
+    for moved in moves {
+        add_done(done, moved)?;
+    }
+    Ok(())
+}
+
 /// The steps that complete.
 fn done_of(alloc: Global, moves: &[Move<'_>]) -> Result<Vec<Step>, AllocError>
     ensures { IfOk result (λ done. done.items ≡ done_steps (moves_from moves.now)) }
 {
     let mut done = Vec::new(alloc);
-    for moved in moves {
-        add_done(&mut done, moved)?;
-    }
+    add_all(&mut done, moves)?;
     Ok(done)
 }
 

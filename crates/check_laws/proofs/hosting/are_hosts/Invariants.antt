@@ -1,9 +1,8 @@
-use Rattle.pico_board.specs.declared.boot.Cpu.{Cpu}
-use Rattle.boot_machine.specs.Machines.{StateView}
-use Rattle.check_laws.specs.Hosting.{IsAt}
-use Rattle.check_laws.proofs.ServingLemmas.{HostsOn}
+use Rattle.std.proofs.Common.{◌≡◌, drop, false}
+use Rattle.check_laws.specs.Hosting.{are_hosts}
 use Rattle.check_laws.proofs.hosting.are_hosts.Given as goal
 
-abbrev pub invariant-loop-event : goal.invariant-loop-event
-invariant-loop-event l = (cpu : Cpu) (place : StateView) → IsAt l.fn.machine cpu place
-    → HostsOn l.fn.machine l.machine cpu place l.heard l.fn.events l.event-iterator
+-- what is told of the events that are left is told of all
+abbrev pub invariant-loop-note : goal.invariant-loop-note
+invariant-loop-note l =
+    are_hosts l.over l.left (drop l.note-index l.notes) ≡ are_hosts false l.fn.events l.notes

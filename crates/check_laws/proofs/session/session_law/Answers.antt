@@ -3,11 +3,8 @@ use Rattle.boot_tape.specs.Moving.{moves_from}
 use Rattle.pico_board.specs.MemBoard.{state_of}
 use Rattle.boot_script.specs.Scripts.{script_events}
 use Rattle.check_laws.proofs.MadeLemmas.{host-writes}
-use Rattle.check_laws.proofs.RecordLemmas.{law-told, none-written}
+use Rattle.check_laws.proofs.NotedLemmas.{law-told, none-written}
 use Rattle.check_laws.proofs.session.session_law.Goals as goal
-
-pub written_law-requires-clause-short : goal.written_law-requires-clause-short
-written_law-requires-clause-short c = c.requires.trace.short
 
 pub returns-then-not-host_writes : goal.returns-then-not-host_writes
 returns-then-not-host_writes c =
