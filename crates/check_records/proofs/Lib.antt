@@ -1,11 +1,10 @@
-mod PoolLemmas
 mod OpenLemmas
 mod RefusalLemmas
 mod BlockLemmas
 mod OtherLemmas
-mod ServedLemmas
+mod OutcomeLemmas
 mod SightLemmas
-mod PlayLemmas
+mod NotedLemmas
 pub mod UnerasedLemmas
 mod EraseLemmas
 mod RepeatLemmas

@@ -1,9 +1,13 @@
 -- The events that did nothing, as they are noted one after another.
-use Rattle.std.proofs.Common.{◌≡◌, ℕ, ◌+◌, ◌≤◌, Bool, true, false, cond, List, [], ◌∷◌, ◌++◌, length, Option, Some, None, refl, sym, ap, ◌∙◌, arith, length-append}
+use Rattle.std.proofs.Common.{◌≡◌, ℕ, ◌+◌, ◌≤◌, Bool, true, false, cond, List, [], ◌∷◌, ◌++◌, length, Option, Some, None, refl, sym, ap, subst, ◌∙◌, arith, length-append}
+use Rattle.std.specs.Prelude.{◌||◌}
 use Rattle.text_lines.specs.declared.outcome.EventOutcome.{EventOutcome}
+use Rattle.boot_tape.specs.declared.notes.Note.{Note}
 use Rattle.check_records.specs.declared.found.Refused.{Refused}
 use Rattle.check_records.specs.Idle.{Idle, idle_here, is_idle}
-use Rattle.check_records.specs.Noting.{count_in, refused_with}
+use Rattle.check_records.specs.declared.refusals.Refusals.{Refusals}
+use Rattle.check_records.specs.Noting.{HasNotedOutcome, count_in, refused_with}
+use Rattle.check_records.specs.Seeing.{came_in, unless_lost}
 
 abbrev counted : ℕ → ℕ → EventOutcome → Option Refused
 counted n first outcome = Some (record { count = n; first = first; outcome = outcome })
@@ -40,3 +44,15 @@ count-more old new lost n outcome is before =
     let now = ap count_in is ∙ count-with old (idle_here lost n outcome) in
     let few = few-here lost n outcome in
     omega (arith, now, few, before)
+
+or-true : (b : Bool) → (b || true) ≡ true
+or-true true = refl
+or-true false = refl
+
+-- an event in which power was lost
+pub note-lost : (old new : Refusals) (note : Note) (n : ℕ) → note.whole ≡ false → new.found ≡ old.found
+    → new.lost ≡ true → HasNotedOutcome old (came_in note) n new
+unfolding is_idle
+note-lost old new note n is same lost =
+    subst (λ (b : Bool). HasNotedOutcome old (unless_lost b note.outcome) n new) (sym is)
+    (record { found = same ∙ sym (refused-none old.found); lost = lost ∙ sym (or-true old.lost) })

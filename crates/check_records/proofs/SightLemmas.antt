@@ -1,194 +1,178 @@
--- An event is seen as the machine plays it.
-use Rattle.std.proofs.Common.{◌≡◌, ◌∙◌, ℕ, Bool, true, false, cond, List, Option, Some, None, refl, sym, ap, subst}
-use Rattle.std.specs.Prelude.{◌&&◌, is_some, not, option_map}
-use Rattle.pico_board.specs.declared.mem_board.MemBoard.{MemBoard}
-use Rattle.pico_board.specs.declared.boot.BootKind.{BootKind}
+-- What events have to do with downloads is seen in what is noted of them.
+use Rattle.std.proofs.Common.{◌≡◌, ◌∙◌, ℕ, Bool, true, false, cond, List, [], ◌∷◌, Option, Some, None, Ok, Err, refl, sym, ap, subst}
+use Rattle.std.specs.Prelude.{◌&&◌, IfOk, Result, if◌then◌else◌, is_some, not}
+use Rattle.std.specs.List.{list_any}
 use Rattle.pico_board.specs.declared.boot.Cpu.{Cpu}
 use Rattle.pico_board.specs.Content.{Content}
-use Rattle.pico_board.specs.Cuts.{cut_steps}
-use Rattle.pico_board.specs.MemBoard.{history_of, state_of}
-use Rattle.pico_board.specs.Supply.{armed_of}
+use Rattle.pico_board.specs.Cuts.{Cut, CutOutcome}
 use Rattle.uf2_place.specs.Blocks.{uf2_of}
-use Rattle.boot_script.specs.Events.{EventView}
 use Rattle.text_lines.specs.declared.outcome.EventOutcome.{EventOutcome}
-use Rattle.boot_machine.specs.declared.parts.Parts.{Parts}
-use Rattle.boot_machine.specs.declared.state.State.TheVariants as states
-use Rattle.boot_machine.specs.Machines.{Host, MachineView, StateView, Off, InBootsel, Running, FromFlash, FromRam}
-use Rattle.boot_machine.specs.Moves.{effect_in}
-use Rattle.boot_machine.specs.Serving.{ServedEvent, followed_by, served_event}
-use Rattle.boot_machine.specs.Standing.{IsHost, IsServed, IsStep, Serves, Stands, StandsAt, placing_at}
-use Rattle.boot_machine.specs.Plays.{Moved, moved_as, moved_machine, told_cut}
-use Rattle.boot_machine.proofs.PlayLemmas.{moves-only}
+use Rattle.boot_script.specs.Events.{EventView}
+use Rattle.boot_machine.specs.Machines.{Host, MachineView, StateView, Off, InBootsel, Running}
+use Rattle.boot_machine.specs.Serving.{ServedEvent, uf2_served}
+use Rattle.boot_machine.specs.Standing.{placing_at}
+use Rattle.boot_machine.specs.Plays.{moved_machine, played, powerless, told_cut}
+use Rattle.boot_tape.specs.CutMoves.{cut_moves}
+use Rattle.boot_tape.specs.declared.notes.Note.{Note}
+use Rattle.boot_tape.specs.declared.trace.Trace.{Trace}
+use Rattle.boot_tape.specs.Playing.{IsTraceOf}
+use Rattle.boot_tape.specs.Traces.{note_of, noted}
+use Rattle.boot_tape.proofs.NoteLemmas.{own-whole}
+use Rattle.boot_tape.proofs.TraceLemmas.{cut-steps}
 use Rattle.check_records.specs.declared.downloads.Beginning.{Beginning}
 use Rattle.check_records.specs.declared.downloads.Kind.{Kind}
 use Rattle.check_records.specs.declared.downloads.Share.{Share}
 use Rattle.check_records.specs.declared.downloads.Share.TheVariants.{Keeps, Drops}
-use Rattle.check_records.specs.declared.playing.Seen.{Seen}
+use Rattle.check_records.specs.declared.found.Records.{Records}
+use Rattle.check_records.specs.Idle.{Idle, idle_from, refused_of}
 use Rattle.check_records.specs.Noting.{current_after}
-use Rattle.check_records.specs.Seeing.{ComesTo, HasSeen, Knows, block_in, is_other, is_over, other_seen, reset_behind}
-use Rattle.check_records.specs.Shares.{block_share, kind_at, moved_by, share_at, share_of}
-use Rattle.check_records.proofs.BlockLemmas.{block-known, block-stays}
-use Rattle.check_records.proofs.OtherLemmas.{other-kind, other-share}
-use Rattle.check_records.proofs.ServedLemmas.{boot-behind, served-asks, served-comes}
+use Rattle.check_records.specs.Records.{records_of}
+use Rattle.check_records.specs.Seeing.{Knows, alone_in, current_kind, is_block, is_other, is_over, other_seen, outcomes_seen, records_seen, share_seen, shares_seen, unless_lost}
+use Rattle.check_records.specs.Shares.{block_share, kind_at, share_of, shares}
+use Rattle.check_records.specs.Unfinished.{first_number, is_beginning, open_from}
+use Rattle.check_records.proofs.BlockLemmas.{block-known, block-told}
+use Rattle.check_records.proofs.OtherLemmas.{moved-place, other-kind, other-share}
+use Rattle.check_records.proofs.OutcomeLemmas.{idle-seen}
 
--- what an event comes to where the board tells its armed cut
-pub stepped : (old new : Parts MemBoard) (m : MachineView) (event : EventView) (outcome : EventOutcome)
-    → Stands state_of old m → IsStep state_of history_of old m event new outcome
-    → ComesTo new outcome (moved_machine m event)
-stepped old new m event outcome stands s =
-    let one = moves-only m (armed_of old.board.supply) event s.next outcome stands.armed s.moves in
-    (subst (λ n. Stands state_of new n) one.machine s.stands, one.told)
-
--- the machine is in BOOTSEL where the parts are
-in-bootsel : (old : Parts MemBoard) (place : StateView) → StandsAt old place → old.state ≡ states.Bootsel
-    → (host : Host) × (place ≡ InBootsel host)
-in-bootsel old Off stands serving = let wrong : states.Off ≡ states.Bootsel = sym stands ∙ serving in cc
-in-bootsel old (InBootsel host) stands serving = (host, refl)
-in-bootsel old (Running (FromFlash choice)) stands serving =
-    let wrong : states.Running choice.image ≡ states.Bootsel = sym stands.state ∙ serving in cc
-in-bootsel old (Running (FromRam image)) stands serving =
-    let wrong : states.Running image ≡ states.Bootsel = sym stands.state ∙ serving in cc
-
--- elsewhere an event is no block that is served
-pub other-place : (old : Parts MemBoard) (place : StateView) (event : EventView) → StandsAt old place
-    → (old.state ≡ states.Bootsel → ⊥) → is_other place event ≡ true
-other-place old Off event stands none = refl
-other-place old (Running program) event stands none = refl
-other-place old (InBootsel host) event stands none = absurd (none stands.state)
-
-pub other-event : (place : StateView) (event : EventView) → block_in event ≡ None → is_other place event ≡ true
-other-event Off event none = refl
-other-event (Running program) event none = refl
-other-event (InBootsel host) EventView.End none = refl
-other-event (InBootsel host) (EventView.Command command payload) none = refl
-other-event (InBootsel host) (EventView.Uf2 block) none = cc
-other-event (InBootsel host) (EventView.Cut left within pattern) none = refl
-other-event (InBootsel host) EventView.PowerOn none = refl
-other-event (InBootsel host) (EventView.Reset kind) none = refl
-other-event (InBootsel host) EventView.Buy none = refl
-
--- the kind of the download that is current
-abbrev kind_known : Option Beginning → Option Kind
-kind_known current = option_map (λ (b : Beginning). b.kind) current
+-- an event is seen by its note, and the download that is current behind it is known
+pub record IsSeen (current : Option Beginning) (m : MachineView) (event : EventView) : Type 0 where
+  pub share : share_seen current event (note_of m event) ≡ share_of m event
+  pub knows : Knows (current_after current (share_of m event)) (moved_machine m event).next.place
 
 -- a block in BOOTSEL
-module _ (m : MachineView) (host : Host) (place : m.place ≡ InBootsel host) (bytes : List ℕ) where
-  abbrev s : ServedEvent
-  s = served_event m.content m.cpu host (EventView.Uf2 bytes)
+module _ (c : Content) (cpu : Cpu) (armed : Option (Option Cut)) (host : Host) (bytes : List ℕ) (current : Option Beginning)
+    (knows : current_kind current ≡ kind_at host.placing) where
+  abbrev here : MachineView
+  here = record { content = c; armed = armed; cpu = cpu; place = InBootsel host }
 
-  moved-block : moved_machine m (EventView.Uf2 bytes)
-      ≡ moved_as m (followed_by m.content m.cpu s s.boot)
-      (cut_steps (followed_by m.content m.cpu s s.boot).steps (told_cut m.armed) m.content)
-  unfolding moved_machine
-  moved-block =
-      ap (λ (p : StateView). moved_as m (effect_in m.content m.cpu p (EventView.Uf2 bytes))
-      (cut_steps (effect_in m.content m.cpu p (EventView.Uf2 bytes)).steps (told_cut m.armed) m.content)) place
+  abbrev told : EventView
+  told = EventView.Uf2 bytes
 
-  share-block : share_of m (EventView.Uf2 bytes)
-      ≡ block_share (kind_at host.placing) (uf2_of bytes) (moved_by m s).outcome
+  abbrev served : ServedEvent
+  served = uf2_served c cpu host (uf2_of bytes)
+
+  -- what the block has to do with downloads, by what came of its own steps
+  abbrev alone : Share
+  alone =
+      block_share (kind_at host.placing) (uf2_of bytes) (unless_lost (cut_moves (told_cut armed) served.steps).whole served.outcome)
+
+  share-block : share_of here told ≡ alone
   unfolding share_of
-  share-block = ap (λ (p : StateView). share_at m p (EventView.Uf2 bytes)) place
+  share-block =
+      ap (λ (o : CutOutcome). block_share (kind_at host.placing) (uf2_of bytes) (unless_lost o.answer served.outcome))
+      (cut-steps served.steps (told_cut armed) c)
 
-  -- the boot behind it
-  whole-block : reset_behind (moved_by m s).next
-      (cond (cut_steps s.steps (told_cut m.armed) m.content).answer s.boot None) (moved_by m s).outcome
-      ≡ moved_machine m (EventView.Uf2 bytes)
-  whole-block =
-      let stays = block-stays m.content m.cpu host (uf2_of bytes) in
-      boot-behind m (told_cut m.armed) s stays.0 stays.1 s.boot ∙ sym moved-block
+  seen-block : share_seen current told (note_of here told) ≡ alone
+  seen-block =
+      ap (λ (b : Bool). if b then block_share (current_kind current) (uf2_of bytes) (alone_in (note_of here told))
+      else other_seen current (note_of here told)) (block-told c cpu host (uf2_of bytes))
+      ∙ (ap (λ (b : Bool). block_share (current_kind current) (uf2_of bytes) (unless_lost b served.outcome)) (own-whole here told)
+      ∙ ap (λ (k : Option Kind). block_share k (uf2_of bytes) (unless_lost (cut_moves (told_cut armed) served.steps).whole served.outcome))
+      knows)
 
-  module _ (old mid new : Parts MemBoard) (stands : Stands state_of old m) (current : Option Beginning)
-      (knows : Knows current m.place) (asked : Option BootKind) (alone outcome : EventOutcome)
-      (served : IsServed state_of history_of old s asked mid alone)
-      (resets : (n : MachineView) → Stands state_of mid n → ComesTo new outcome (reset_behind n asked alone)) where
-    known : kind_known current ≡ kind_at host.placing
-    known = knows ∙ ap (λ (p : StateView). kind_at (placing_at p)) place
-
-    came : ComesTo mid alone (moved_by m s)
-    came = served-comes old mid m stands s asked alone served
-
-    seen-comes : ComesTo new outcome (moved_machine m (EventView.Uf2 bytes))
-    seen-comes =
-        subst (λ (w : Moved). ComesTo new outcome w) whole-block
-        (subst (λ (o : EventOutcome). ComesTo new outcome (reset_behind (moved_by m s).next
-        (cond (cut_steps s.steps (told_cut m.armed) m.content).answer s.boot None) o)) came.1
-        (subst (λ (a : Option BootKind). ComesTo new outcome (reset_behind (moved_by m s).next a alone))
-        (served-asks old mid m stands s asked alone served) (resets (moved_by m s).next came.0)))
-
-    share-seen : block_share (kind_known current) (uf2_of bytes) alone ≡ share_of m (EventView.Uf2 bytes)
-    share-seen =
-        ap (λ (k : Option Kind). block_share k (uf2_of bytes) alone) known
-        ∙ (ap (λ (o : EventOutcome). block_share (kind_at host.placing) (uf2_of bytes) o) came.1 ∙ sym share-block)
-
-    known-behind : Knows (current_after current (share_of m (EventView.Uf2 bytes)))
-        (moved_machine m (EventView.Uf2 bytes)).next.place
-    known-behind =
-        subst (λ (x : Share). Knows (current_after current x) (moved_machine m (EventView.Uf2 bytes)).next.place)
-        (sym share-block)
-        (subst (λ (w : Moved). Knows (current_after current
-        (block_share (kind_at host.placing) (uf2_of bytes) (moved_by m s).outcome)) w.next.place) whole-block
-        (block-known m host current known (uf2_of bytes)))
-
-    seen-here : (seen : Seen) → seen.outcome ≡ outcome
-        → seen.share ≡ block_share (kind_known current) (uf2_of bytes) alone
-        → HasSeen m current (EventView.Uf2 bytes) seen new
-    seen-here seen told share = record {
-      comes = (seen-comes.0, told ∙ seen-comes.1);
-      share = share ∙ share-seen;
-      knows = subst (λ (x : Share). Knows (current_after current x) (moved_machine m (EventView.Uf2 bytes)).next.place)
-          (sym (share ∙ share-seen)) known-behind;
-    }
-
-pub seen-block : (old mid new : Parts MemBoard) (m : MachineView) (current : Option Beginning) (event : EventView)
-    (bytes : List ℕ) (asked : Option BootKind) (alone outcome : EventOutcome) (seen : Seen)
-    → event ≡ EventView.Uf2 bytes → old.state ≡ states.Bootsel
-    → Serves state_of history_of old (λ c cpu host. served_event c cpu host event) asked mid alone
-    → ((n : MachineView) → Stands state_of mid n → ComesTo new outcome (reset_behind n asked alone))
-    → seen.outcome ≡ outcome → seen.share ≡ block_share (kind_known current) (uf2_of bytes) alone
-    → Stands state_of old m → Knows current m.place → HasSeen m current event seen new
-seen-block old mid new m current event bytes asked alone outcome seen is serving serves resets told share stands knows =
-    let at = in-bootsel old m.place stands.place serving in
-    let host : IsHost old at.0 = subst (λ (p : StateView). StandsAt old p) at.1 stands.place in
-    let served : IsServed state_of history_of old (served_event (state_of old.board).content old.cpu at.0 (EventView.Uf2 bytes))
-    asked mid alone =
-    subst (λ (e : EventView). IsServed state_of history_of old
-    (served_event (state_of old.board).content old.cpu at.0 e) asked mid alone) is (serves at.0 host) in
-    let here : IsServed state_of history_of old (served_event m.content m.cpu at.0 (EventView.Uf2 bytes)) asked mid alone =
-    subst (λ (cpu : Cpu). IsServed state_of history_of old (served_event m.content cpu at.0 (EventView.Uf2 bytes)) asked mid alone)
-    (sym stands.cpu)
-    (subst (λ (c : Content). IsServed state_of history_of old (served_event c old.cpu at.0 (EventView.Uf2 bytes)) asked mid alone)
-    (sym stands.content) served) in
-    subst (λ (e : EventView). HasSeen m current e seen new) (sym is)
-    (seen-here m at.0 at.1 bytes old mid new stands current knows asked alone outcome here resets seen told share)
+  block-seen : IsSeen current here told
+  block-seen = record {
+    share = seen-block ∙ sym share-block;
+    knows = subst (λ (x : Share). Knows (current_after current x) (moved_machine here told).next.place) (sym share-block)
+        (subst (Knows (current_after current alone)) (sym (moved-place here told))
+        (block-known c cpu (told_cut armed) host current knows (uf2_of bytes)));
+  }
 
 -- another event
 shared-so : (current : Option Beginning) (over : Bool)
-    → cond (is_some (cond over None (kind_known current))) Keeps Drops ≡ cond (is_some current && not over) Keeps Drops
+    → cond (is_some (cond over None (current_kind current))) Keeps Drops ≡ cond (is_some current && not over) Keeps Drops
 shared-so None true = refl
 shared-so None false = refl
 shared-so (Some b) true = refl
 shared-so (Some b) false = refl
 
 known-so : (current : Option Beginning) (over : Bool)
-    → kind_known (current_after current (cond (is_some current && not over) Keeps Drops)) ≡ cond over None (kind_known current)
+    → current_kind (current_after current (cond (is_some current && not over) Keeps Drops)) ≡ cond over None (current_kind current)
 known-so None true = refl
 known-so None false = refl
 known-so (Some b) true = refl
 known-so (Some b) false = refl
 
-pub seen-other : (new : Parts MemBoard) (m : MachineView) (current : Option Beginning) (event : EventView)
-    (outcome : EventOutcome) (seen : Seen) → ComesTo new outcome (moved_machine m event) → seen.outcome ≡ outcome
-    → seen.share ≡ other_seen current outcome → Knows current m.place → is_other m.place event ≡ true
-    → HasSeen m current event seen new
-seen-other new m current event outcome seen comes told share knows other =
-    let over = is_over outcome in
-    let kind : kind_at (placing_at (moved_machine m event).next.place) ≡ cond over None (kind_known current) =
-    other-kind m event other
-    ∙ (ap (λ (o : EventOutcome). cond (is_over o) None (kind_at (placing_at m.place))) (sym comes.1)
-    ∙ ap (λ (k : Option Kind). cond over None k) (sym knows)) in record {
-      comes = (comes.0, told ∙ comes.1);
-      share = share
-          ∙ (sym (shared-so current over)
-          ∙ (sym (ap (λ (k : Option Kind). cond (is_some k) Keeps Drops) kind) ∙ sym (other-share m event other)));
-      knows = ap (λ (x : Share). kind_known (current_after current x)) share ∙ (known-so current over ∙ sym kind);
+-- elsewhere no block is told
+seen-other : (c : Content) (cpu : Cpu) (armed : Option (Option Cut)) (place : StateView) (event : EventView)
+    (current : Option Beginning) → is_other place event ≡ true
+    → (let m : MachineView = record { content = c; armed = armed; cpu = cpu; place = place } in
+    share_seen current event (note_of m event) ≡ other_seen current (note_of m event))
+seen-other c cpu armed place EventView.End current other = refl
+seen-other c cpu armed place (EventView.Command command payload) current other = refl
+seen-other c cpu armed Off (EventView.Uf2 block) current other = refl
+seen-other c cpu armed (InBootsel host) (EventView.Uf2 block) current other = cc
+seen-other c cpu armed (Running program) (EventView.Uf2 block) current other = refl
+seen-other c cpu armed place (EventView.Cut left within pattern) current other = refl
+seen-other c cpu armed place EventView.PowerOn current other = refl
+seen-other c cpu armed place (EventView.Reset kind) current other = refl
+seen-other c cpu armed place EventView.Buy current other = refl
+
+other-seen : (current : Option Beginning) (m : MachineView) (event : EventView) → Knows current m.place
+    → is_other m.place event ≡ true → IsSeen current m event
+other-seen current m event knows other =
+    let over = is_over (note_of m event) in
+    let kind : kind_at (placing_at (moved_machine m event).next.place) ≡ cond over None (current_kind current) =
+    other-kind m event other ∙ ap (λ (k : Option Kind). cond over None k) (sym knows) in
+    let share : share_of m event ≡ other_seen current (note_of m event) =
+    other-share m event other
+    ∙ (ap (λ (k : Option Kind). cond (is_some k) Keeps Drops) kind ∙ shared-so current over) in record {
+      share = seen-other m.content m.cpu m.armed m.place event current other ∙ sym share;
+      knows = ap (λ (x : Share). current_kind (current_after current x)) share ∙ (known-so current over ∙ sym kind);
     }
+
+abbrev machine_in : Content → Cpu → Option (Option Cut) → StateView → MachineView
+machine_in c cpu armed place = record { content = c; armed = armed; cpu = cpu; place = place }
+
+event-in : (c : Content) (cpu : Cpu) (armed : Option (Option Cut)) (place : StateView) (event : EventView)
+    (current : Option Beginning) → Knows current place
+    → IsSeen current (machine_in c cpu armed place) event
+event-in c cpu armed Off event current knows = other-seen current (machine_in c cpu armed Off) event knows refl
+event-in c cpu armed (Running program) event current knows =
+    other-seen current (machine_in c cpu armed (Running program)) event knows refl
+event-in c cpu armed (InBootsel host) (EventView.Uf2 block) current knows =
+    block-seen c cpu armed host block current knows
+event-in c cpu armed (InBootsel host) EventView.End current knows = other-seen current (machine_in c cpu armed (InBootsel host)) EventView.End knows refl
+event-in c cpu armed (InBootsel host) (EventView.Command command payload) current knows =
+    other-seen current (machine_in c cpu armed (InBootsel host)) (EventView.Command command payload) knows refl
+event-in c cpu armed (InBootsel host) (EventView.Cut left within pattern) current knows =
+    other-seen current (machine_in c cpu armed (InBootsel host)) (EventView.Cut left within pattern) knows refl
+event-in c cpu armed (InBootsel host) EventView.PowerOn current knows =
+    other-seen current (machine_in c cpu armed (InBootsel host)) EventView.PowerOn knows refl
+event-in c cpu armed (InBootsel host) (EventView.Reset kind) current knows =
+    other-seen current (machine_in c cpu armed (InBootsel host)) (EventView.Reset kind) knows refl
+event-in c cpu armed (InBootsel host) EventView.Buy current knows = other-seen current (machine_in c cpu armed (InBootsel host)) EventView.Buy knows refl
+
+-- events, one after another
+shares-told : (current : Option Beginning) (m : MachineView) (events : List EventView) → Knows current m.place
+    → shares_seen current events (noted m events) ≡ shares m events
+shares-told current m [] knows = refl
+shares-told current m (event ∷ events) knows =
+    let is : IsSeen current m event = event-in m.content m.cpu m.armed m.place event current knows in
+    let next = (moved_machine m event).next in
+    ap (λ (x : Share). x ∷ shares_seen (current_after current x) events (noted next events)) is.share
+    ∙ ap (λ (xs : List Share). share_of m event ∷ xs)
+    (shares-told (current_after current (share_of m event)) next events is.knows)
+
+abbrev of_both : List Idle → List Share → Records
+of_both idle share = record {
+  refused = refused_of idle;
+  unfinished = first_number (open_from 0 share);
+  begins = list_any is_beginning share;
+}
+
+-- what is found of a script by its notes is what is found of it as it is played
+records-told : (c : Content) (cpu : Cpu) (events : List EventView)
+    → records_seen events (noted (powerless c cpu) events) ≡ records_of c cpu events
+records-told c cpu events =
+    let m = powerless c cpu in
+    ap (λ (xs : List Idle). of_both xs (shares_seen None events (noted m events))) (idle-seen false 0 m events)
+    ∙ ap (of_both (idle_from false 0 (played m events).outcomes)) (shares-told None m events refl)
+
+-- the same of what is found of a trace, where memory suffices
+pub found-told : {E : Type 0} (r : Result Records E) (events : List EventView) (notes : List Note) (trace : Trace)
+    → IfOk r (λ found. found ≡ records_seen events notes) → notes ≡ trace.notes.items
+    → IfOk r (λ found. (c : Content) (cpu : Cpu) → IsTraceOf c cpu events trace → found ≡ records_of c cpu events)
+found-told (Ok found) events notes trace is same = λ c cpu traced.
+    is ∙ (ap (λ (ns : List Note). records_seen events ns) (same ∙ traced.notes) ∙ records-told c cpu events)
+found-told (Err e) events notes trace is same = tt

@@ -16,14 +16,14 @@ mod found;
 pub mod laws;
 mod lines;
 mod noting;
-mod playing;
 mod refusals;
 mod repeating;
+mod seeing;
 
 pub use caveats::script_caveats;
 pub use downloads::{Beginning, Kind, Share, Stage};
 pub use erasing::first_unerased;
 pub use found::{Again, Records, Refused, ScriptCaveats};
 pub use lines::{again_line, records_lines};
-pub use playing::records_of;
 pub use repeating::again_of;
+pub use seeing::records_of;

@@ -1,10 +1,13 @@
 //! The records of a script that did nothing, as its events are told one after another.
 
-ghost use Rattle.std.specs.Prelude.{◌≡◌, ◌+◌, ◌^◌, ◌<◌, ◌∷◌, [], None, false};
-ghost use Rattle.check_records.specs.Idle.{is_idle, is_idle_block, is_idle_command, is_lost, is_read, is_refused};
+ghost use Rattle.std.specs.Prelude.{◌≡◌, ◌+◌, ◌^◌, ◌<◌, ◌∷◌, if◌then◌else◌, [], None, Some, false};
+ghost use Rattle.text_lines.specs.declared.outcome.EventOutcome.TheVariants as events;
+ghost use Rattle.check_records.specs.Idle.{is_idle, is_idle_block, is_idle_command, is_lost, is_read};
 ghost use Rattle.check_records.specs.Noting.{HasNotedOutcome, count_in, refused_with};
+ghost use Rattle.check_records.specs.Seeing.{came_in};
 
 use crate::found::Refused;
+use boot_tape::Note;
 use info_reply::kinds::INFO;
 use picoboot_cmd::kinds::{OTP_READ, READ};
 use text_lines::{BlockOutcome, CommandAnswer, CommandOutcome, EventOutcome};
@@ -25,42 +28,56 @@ fn is_read(id: u8) -> bool
     id == READ || id == INFO || id == OTP_READ
 }
 
-/// Whether a command has a status other than 0.
-fn is_refused(answer: &CommandAnswer) -> bool
-    ensures { result ≡ is_refused answer.now }
+/// What came of a command, if it is no read and has a status other than 0.
+fn idle_command(command: &CommandOutcome) -> Option<EventOutcome>
+    ensures { result ≡ (if is_idle_command command.now then Some (events.Command command.now)
+        else None) }
 {
-    matches!(answer, CommandAnswer::Refused(_))
+    let CommandAnswer::Refused(status) = &command.answer else {
+        return None;
+    };
+    if is_read(command.id) {
+        return None;
+    }
+    Some(EventOutcome::Command(CommandOutcome {
+        id: command.id,
+        token: command.token,
+        answer: CommandAnswer::Refused(*status),
+    }))
 }
 
-/// Whether a command is no read and has a status other than 0.
-fn is_idle_command(command: &CommandOutcome) -> bool
-    ensures { result ≡ is_idle_command command.now }
+/// What came of bytes that may be a block, if they break its form or it is refused.
+fn idle_block(block: &BlockOutcome) -> Option<EventOutcome>
+    ensures { result ≡ (if is_idle_block block.now then Some (events.Block block.now)
+        else None) }
 {
-    is_refused(&command.answer) && !is_read(command.id)
+    match block {
+        BlockOutcome::BadForm(fault) => Some(EventOutcome::Block(BlockOutcome::BadForm(*fault))),
+        BlockOutcome::Refused(refusal) => {
+            Some(EventOutcome::Block(BlockOutcome::Refused(*refusal)))
+        }
+        BlockOutcome::Accepted(_, _) | BlockOutcome::Downloaded(_, _) => None,
+    }
 }
 
-/// Whether a block breaks its form, or is refused.
-fn is_idle_block(block: &BlockOutcome) -> bool
-    ensures { result ≡ is_idle_block block.now }
-{
-    matches!(block, BlockOutcome::BadForm(_) | BlockOutcome::Refused(_))
-}
-
-/// Whether an event did nothing, where power was lost before it or was not.
+/// What came of an event, if it did nothing. Power was lost before it or was not.
 #[tactic(auto, unfolding(crate::specs::Idle::is_idle))]
-fn is_idle(lost: bool, outcome: &EventOutcome) -> bool
-    ensures { result ≡ is_idle lost outcome.now }
+fn idle_of(lost: bool, outcome: &EventOutcome) -> Option<EventOutcome>
+    ensures { result ≡ (if is_idle lost outcome.now then Some outcome.now else None) }
 {
     match outcome {
-        EventOutcome::Off => !lost,
-        EventOutcome::Ignored | EventOutcome::NothingToBuy | EventOutcome::BadMagic => true,
-        EventOutcome::Command(command) => is_idle_command(command),
-        EventOutcome::Block(block) => is_idle_block(block),
-        EventOutcome::Ended
+        EventOutcome::Off if !lost => Some(EventOutcome::Off),
+        EventOutcome::Ignored => Some(EventOutcome::Ignored),
+        EventOutcome::NothingToBuy => Some(EventOutcome::NothingToBuy),
+        EventOutcome::BadMagic => Some(EventOutcome::BadMagic),
+        EventOutcome::Command(command) => idle_command(command),
+        EventOutcome::Block(block) => idle_block(block),
+        EventOutcome::Off
+        | EventOutcome::Ended
         | EventOutcome::CutArmed
         | EventOutcome::PowerLost
         | EventOutcome::Booted(_)
-        | EventOutcome::Bought => false,
+        | EventOutcome::Bought => None,
     }
 }
 
@@ -102,15 +119,26 @@ impl Refusals {
         }
     }
 
-    /// Notes what came of the event of this number.
-    pub(crate) fn note(&mut self, outcome: EventOutcome, number: u32)
+    /// Notes what came of an event, where all its steps completed.
+    fn note_whole(&mut self, outcome: &EventOutcome, number: u32)
         requires few { count_in self.old.found + 1 < 2 ^ 32 }
-        ensures { HasNotedOutcome self.old outcome number self.new }
+        ensures { HasNotedOutcome self.old outcome.now number self.new }
     {
-        let lost = self.lost || is_lost(&outcome);
-        if is_idle(self.lost, &outcome) {
-            self.add(outcome, number);
+        if let Some(idle) = idle_of(self.lost, outcome) {
+            self.add(idle, number);
         }
-        self.lost = lost;
+        self.lost = self.lost || is_lost(outcome);
+    }
+
+    /// Notes what came of the event of this number.
+    pub(crate) fn note(&mut self, note: &Note, number: u32)
+        requires few { count_in self.old.found + 1 < 2 ^ 32 }
+        ensures { HasNotedOutcome self.old (came_in note.now) number self.new }
+    {
+        if note.whole {
+            self.note_whole(&note.outcome, number);
+        } else {
+            self.lost = true;
+        }
     }
 }

@@ -191,7 +191,7 @@ pub(crate) fn findings_on(
     let steps = steps_of(alloc, &trace.moves)?;
     let (windows, cuts) = cuts_found(alloc, board, &mut pool, cpu, trace, pattern.bytes)?;
     let images = images_found(alloc, board, trace, &mut pool, cpu, &cuts)?;
-    let records = records_of(alloc, board, cpu, script)?;
+    let records = records_of(alloc, script, trace)?;
     let again = again_found(alloc, &steps, &cuts.counts, records.begins)?;
     let laws = laws_found(alloc, board, cpu, script, trace)?;
     let raised = raise_count(&steps);

@@ -67,7 +67,7 @@ returns c =
       counted = counted;
       images = images-told content cpu events c.args.trace.now is (images_from c.in_ok-images.images) cuts.end_class
           counted.end_class c.in_ok-images.ensures;
-      records = c.in_ok-records.ensures;
+      records = c.in_ok-records.ensures content cpu is;
       again = c.in_ok-again.ensures
           ∙ ap (λ (xs : List Step). again_by (first_unerased xs) cuts.counts.other_table c.in_ok-records.records.begins
           cuts.counts.other_class) (c.deref-2.ensures.value ∙ steps);
