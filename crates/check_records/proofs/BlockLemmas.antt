@@ -1,6 +1,6 @@
 -- Which download is current behind a block.
 use Rattle.std.proofs.Common.{◌≡◌, ◌⊎◌, inl, inr, ℕ, Bool, true, false, cond, List, [], ◌∷◌, ◌++◌, Option, Some, None, Ok, Err, refl, sym, ap, ◌∙◌, subst}
-use Rattle.std.specs.Prelude.{Result, not, nat_eq, length, option_map}
+use Rattle.std.specs.Prelude.{Result, not, nat_eq, length}
 use Rattle.std.specs.Set.{is_member}
 use Rattle.pico_board.specs.declared.boot.BootKind.{BootKind}
 use Rattle.pico_board.specs.declared.boot.Cpu.{Cpu}

@@ -13,12 +13,10 @@ use Rattle.picoboot_cmd.specs.declared.cmd.Cmd.{Cmd}
 use Rattle.picoboot_cmd.specs.declared.cmd.CmdFault.{CmdFault}
 use Rattle.picoboot_cmd.specs.declared.kinds.TheConstants.{OK}
 use Rattle.picoboot_cmd.specs.Commands.{command_in}
-use Rattle.picoboot_cmd.specs.Served.{served_on}
 use Rattle.info_reply.specs.declared.kinds.TheConstants.{INFO}
 use Rattle.ram_start.specs.Serving.{is_ram_command, ram_command}
 use Rattle.trial_buy.specs.Buying.{buy_steps}
 use Rattle.text_lines.specs.declared.outcome.CommandAnswer.TheVariants as answers
-use Rattle.text_lines.specs.declared.outcome.EventOutcome.{EventOutcome}
 use Rattle.text_lines.specs.declared.outcome.EventOutcome.TheVariants as events
 use Rattle.text_lines.specs.Outcomes.{answer_of, has_reply, reply_sum}
 use Rattle.boot_rules.specs.Choosing.{decision_in}
@@ -26,7 +24,7 @@ use Rattle.boot_script.specs.Events.{EventView}
 use Rattle.boot_machine.specs.Boots.{Effect}
 use Rattle.boot_machine.specs.Machines.{Host, MachineView, StateView, Off, InBootsel, Running, FromFlash, FromRam}
 use Rattle.boot_machine.specs.Moves.{armed_for, bought_choice, effect, stays_with}
-use Rattle.boot_machine.specs.Serving.{ServedEvent, command_served, followed_by, ram_outcome, ram_place, serves, serves_host, serves_info, serves_ram, table_of_found}
+use Rattle.boot_machine.specs.Serving.{ServedEvent, command_served, followed_by, ram_outcome, ram_place, serves, serves_host, serves_info, serves_ram}
 use Rattle.boot_machine.specs.Plays.{moved_machine, told_cut}
 use Rattle.boot_tape.specs.Traces.{behind, behind_asked, came_of, note_of}
 use Rattle.boot_tape.proofs.TraceLemmas.{cut-steps}

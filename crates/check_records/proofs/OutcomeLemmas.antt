@@ -32,11 +32,11 @@ use Rattle.boot_rules.specs.Choosing.{decision_in}
 use Rattle.boot_script.specs.Events.{EventView}
 use Rattle.boot_machine.specs.Machines.{Host, MachineView, StateView, Off, InBootsel, Running}
 use Rattle.boot_machine.specs.Moves.{effect, effect_in}
-use Rattle.boot_machine.specs.Serving.{ServedEvent, block_served, blocks_of, command_served, done_boot, followed_by, host_result, is_hosted, served_event, serves, serves_host, serves_info, serves_ram, table_of_found, taken_in, uf2_served, with_placing}
+use Rattle.boot_machine.specs.Serving.{ServedEvent, block_served, blocks_of, command_served, done_boot, followed_by, host_result, is_hosted, serves, serves_host, serves_info, serves_ram, table_of_found, taken_in, uf2_served, with_placing}
 use Rattle.boot_machine.specs.Plays.{moved_machine, played}
 use Rattle.boot_tape.specs.Traces.{came_of, note_of, noted, outcome_before, served_in}
 use Rattle.boot_tape.proofs.NoteLemmas.{unserved}
-use Rattle.check_records.specs.Idle.{Idle, idle_from, idle_here, is_idle, is_idle_command, is_lost, is_read, is_refused}
+use Rattle.check_records.specs.Idle.{Idle, idle_from, idle_here, is_idle, is_lost, is_read, is_refused}
 use Rattle.check_records.specs.Seeing.{came_in, outcomes_seen, unless_lost}
 use Rattle.check_records.proofs.OtherLemmas.{moved-outcome}
 

@@ -6,7 +6,6 @@ use Rattle.pico_board.specs.declared.boot.Cpu.{Cpu}
 use Rattle.pico_board.specs.Content.{Content}
 use Rattle.pico_board.specs.Cuts.{Cut, CutOutcome}
 use Rattle.uf2_place.specs.Blocks.{uf2_of}
-use Rattle.text_lines.specs.declared.outcome.EventOutcome.{EventOutcome}
 use Rattle.boot_script.specs.Events.{EventView}
 use Rattle.boot_machine.specs.Machines.{Host, MachineView, StateView, Off, InBootsel, Running}
 use Rattle.boot_machine.specs.Serving.{ServedEvent, uf2_served}
@@ -27,7 +26,7 @@ use Rattle.check_records.specs.declared.found.Records.{Records}
 use Rattle.check_records.specs.Idle.{Idle, idle_from, refused_of}
 use Rattle.check_records.specs.Noting.{current_after}
 use Rattle.check_records.specs.Records.{records_of}
-use Rattle.check_records.specs.Seeing.{Knows, alone_in, current_kind, is_block, is_other, is_over, other_seen, outcomes_seen, records_seen, share_seen, shares_seen, unless_lost}
+use Rattle.check_records.specs.Seeing.{Knows, alone_in, current_kind, is_other, is_over, other_seen, records_seen, share_seen, shares_seen, unless_lost}
 use Rattle.check_records.specs.Shares.{block_share, kind_at, share_of, shares}
 use Rattle.check_records.specs.Unfinished.{first_number, is_beginning, open_from}
 use Rattle.check_records.proofs.BlockLemmas.{block-known, block-told}
