@@ -40,7 +40,7 @@ pub fn image_flags(block: &Block) -> Option<u16>
 
 /// Whether the flags are those of an executable for the RP2350 and this processor; for Arm a
 /// secure one.
-fn are_for(cpu: Cpu, flags: u16) -> bool
+pub fn are_for(cpu: Cpu, flags: u16) -> bool
     ensures { result ≡ suits_flags cpu flags }
 {
     let runs = flags % 16 == EXECUTABLE && flags / 4096 % 8 == RP2350;

@@ -19,6 +19,6 @@ mod started;
 
 pub use block_codec::{Def, EntryPoint};
 pub use fault::DefFault;
-pub use images::{MOST_BLOCK_BYTES, image_flags, suits};
+pub use images::{MOST_BLOCK_BYTES, are_for, image_flags, suits};
 pub use reading::read_def;
 pub use started::Started;

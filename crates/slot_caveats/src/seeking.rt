@@ -4,13 +4,12 @@ ghost use Rattle.std.specs.Prelude.{◌≡◌, List, Ok, find, reverse};
 ghost use Rattle.block_codec.specs.Blocks.{BlockView};
 ghost use Rattle.block_loop.specs.Loop.{loop_of};
 ghost use Rattle.block_loop.specs.Offsets.{AreLoop};
-ghost use Rattle.image_def.specs.Suits.{suits_flags};
 ghost use Rattle.slot_caveats.specs.SlotCaveats.{is_executable, last_where};
 ghost use Rattle.slot_caveats.specs.Sought.{is_long_definition, is_sought};
 
 use block_codec::Block;
 use block_loop::{BlockLoop, block_of, walk};
-use image_def::{MOST_BLOCK_BYTES, image_flags, suits};
+use image_def::{MOST_BLOCK_BYTES, are_for, image_flags, suits};
 use part_table::has_table;
 use pico_board::{Cpu, View};
 
@@ -37,18 +36,6 @@ fn is_executable(block: &Block) -> bool
     }
 }
 
-/// Whether the flags of an IMAGE_TYPE item are those of a definition for the processor.
-fn suits_flags(cpu: Cpu, flags: u16) -> bool
-    ensures { result ≡ suits_flags cpu flags }
-{
-    let runs = flags % 16 == 1 && flags / 4096 % 8 == 1;
-    let processor = flags / 256 % 8;
-    match cpu {
-        Cpu::Arm => runs && processor == 0 && flags / 16 % 4 == 2,
-        Cpu::Riscv => runs && processor == 1,
-    }
-}
-
 /// Whether a block is longer than a definition may be, and would suit the processor otherwise.
 fn is_long_definition(block: &Block, cpu: Cpu) -> bool
     ensures { result ≡ is_long_definition cpu block.now }
@@ -57,7 +44,7 @@ fn is_long_definition(block: &Block, cpu: Cpu) -> bool
         return false;
     }
     match image_flags(block) {
-        Some(flags) => suits_flags(cpu, flags),
+        Some(flags) => are_for(cpu, flags),
         None => false,
     }
 }
