@@ -15,7 +15,7 @@ use Rattle.slot_choice.specs.declared.unit.Member.TheVariants.{A, B}
 use Rattle.slot_choice.specs.declared.unit.SlotUnit.{SlotUnit}
 use Rattle.slot_choice.specs.declared.choice.Choice.{Choice}
 use Rattle.slot_choice.specs.Units.{member_window}
-use Rattle.slot_choice.specs.Versions.{better, is_below}
+use Rattle.slot_choice.specs.Versions.{are_different, better, better_of}
 use Rattle.boot_rules.specs.Choosing.{choice_of, images_in, member_image, of_better, ordered_choice, unit_choice, version_of_image}
 use Rattle.boot_rules.specs.Chosen.{is_member}
 use Rattle.boot_rules.proofs.DecisionLemmas.{found-valid, valid-found}
@@ -23,7 +23,7 @@ use Rattle.boot_rules.proofs.UnitLemmas.{counting, image-window, window-image}
 use Rattle.boot_reasons.specs.declared.looks.UnitReport.{UnitReport}
 use Rattle.boot_reasons.specs.declared.looks.TakenImage.{TakenImage}
 use Rattle.boot_reasons.specs.declared.looks.UnitReason.TheVariants.{Updated, Only, Version, Tie}
-use Rattle.boot_reasons.specs.Looks.{better_image, second_counted, first_choice, report_on, reported_choice, reports_of, second_image, reported_image, taken_image, taken_choice_of, taken_of}
+use Rattle.boot_reasons.specs.Looks.{better_image, second_counted, first_choice, report_on, reported_choice, reports_of, second_image, reported_image, taken_image, taken_choice_of, taken_of, taken_of_pair}
 use Rattle.boot_reasons.specs.LookRules.{AreUnitReports, CountsIn, IsImageReported, IsUnitReport, IsSecondReported, IsTakenBy}
 use Rattle.boot_reasons.specs.Reasons.{results_in}
 use Rattle.boot_reasons.proofs.TookLemmas.{Tells, took-right, took-only}
@@ -121,19 +121,19 @@ module _ (u : SlotUnit) where
   updating m other a b = option_or (option_map (choice_of u m true) a) (option_map (choice_of u other false) b)
 
   -- the choice of the report on a unit with two images, by two tests
-  two-taken : (updated : Option Member) (s t : Started) (lower higher : Bool)
-      → taken_choice_of (seen updated (Ok s) (Some (Ok t)))
-      (if lower then taken_image B Version t else (if higher then taken_image A Version s else taken_image A Tie s))
-      ≡ of_better u (Some (if lower then B else A)) (Some s) (Some t)
-  two-taken updated s t true higher = refl
-  two-taken updated s t false true = refl
-  two-taken updated s t false false = refl
+  two-taken : (updated : Option Member) (s t : Started) (m : Member) (apart : Bool)
+      → taken_choice_of (seen updated (Ok s) (Some (Ok t))) (taken_of_pair m (if apart then Version else Tie) s t)
+      ≡ of_better u (Some m) (Some s) (Some t)
+  two-taken updated s t A true = refl
+  two-taken updated s t A false = refl
+  two-taken updated s t B true = refl
+  two-taken updated s t B false = refl
 
   plain-choice : (first : Result Started Why) (second : Option (Result Started Why))
       → reported_choice (seen None first second) ≡ plain (result_ok first) (second_counted second)
   plain-choice (Ok s) None = refl
   plain-choice (Ok s) (Some (Ok t)) =
-      two-taken None s t (is_below s.version t.version) (is_below t.version s.version)
+      two-taken None s t (better_of s.version t.version) (are_different s.version t.version)
   plain-choice (Ok s) (Some (Err y)) = refl
   plain-choice (Err x) None = refl
   plain-choice (Err x) (Some (Ok t)) = refl
@@ -158,19 +158,19 @@ module _ (u : SlotUnit) where
   second-choice (Err x) (Some (Err y)) = refl
 
   -- a report has an image that is taken exactly where it makes a choice
-  two-takes : (updated : Option Member) (s t : Started) (lower higher : Bool)
-      → (let o : Option TakenImage = if lower then taken_image B Version t else
-      (if higher then taken_image A Version s else taken_image A Tie s)
+  two-takes : (updated : Option Member) (s t : Started) (m : Member) (apart : Bool)
+      → (let o : Option TakenImage = taken_of_pair m (if apart then Version else Tie) s t
       in is_some o ≡ is_some (taken_choice_of (seen updated (Ok s) (Some (Ok t))) o))
-  two-takes updated s t true higher = refl
-  two-takes updated s t false true = refl
-  two-takes updated s t false false = refl
+  two-takes updated s t A true = refl
+  two-takes updated s t A false = refl
+  two-takes updated s t B true = refl
+  two-takes updated s t B false = refl
 
   pub takes-choice : (updated : Option Member) (first : Result Started Why) (second : Option (Result Started Why))
       → is_some (seen updated first second).taken ≡ is_some (reported_choice (seen updated first second))
   takes-choice None (Ok s) None = refl
   takes-choice None (Ok s) (Some (Ok t)) =
-      two-takes None s t (is_below s.version t.version) (is_below t.version s.version)
+      two-takes None s t (better_of s.version t.version) (are_different s.version t.version)
   takes-choice None (Ok s) (Some (Err y)) = refl
   takes-choice None (Err x) None = refl
   takes-choice None (Err x) (Some (Ok t)) = refl

@@ -24,8 +24,8 @@ use Rattle.boot_rules.proofs.SlotLemmas.{has-table, table-has, table-found}
 -- the table in force of two tables, by the three tests
 abbrev told_by : Bool → Bool → Bool → Option TableInForce
 told_by singleton lower higher =
-    if singleton then in_force 0 Singleton
-    else (if lower then in_force 1 Version else (if higher then in_force 0 Version else in_force 0 Tie))
+    in_force (if singleton || not lower then 0 else 1)
+    (if singleton then Singleton else (if lower || higher then Version else Tie))
 
 abbrev found_by : Bool → Bool → Table → Table → Option Found
 found_by singleton lower t u =

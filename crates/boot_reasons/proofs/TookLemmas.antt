@@ -1,5 +1,5 @@
 -- Which image is taken in a unit, and why, by the function and in the words of the rules.
-use Rattle.std.proofs.Common.{◌≡◌, ◌⊎◌, Bool, true, false, cond, if◌then◌else◌, Option, Some, None, IsTrue, is_some, refl, sym, ap, ◌∙◌, subst, inl, inr}
+use Rattle.std.proofs.Common.{◌≡◌, ◌⊎◌, Bool, true, false, cond, ◌||◌, if◌then◌else◌, Option, Some, None, IsTrue, is_some, refl, sym, ap, ◌∙◌, subst, inl, inr}
 use Rattle.std.proofs.lemmas.Option.{same_Some}
 use Rattle.pico_board.specs.declared.window.Window.{Window}
 use Rattle.image_def.specs.declared.started.Started.{Started}
@@ -7,15 +7,15 @@ use Rattle.slot_choice.specs.declared.unit.Member.{Member}
 use Rattle.slot_choice.specs.declared.unit.Member.TheVariants.{A, B}
 use Rattle.slot_choice.specs.declared.unit.SlotUnit.{SlotUnit}
 use Rattle.slot_choice.specs.Units.{member_window}
-use Rattle.slot_choice.specs.Versions.{is_below}
-use Rattle.slot_choice.proofs.VersionLemmas.{irreflexive, total}
+use Rattle.slot_choice.specs.Versions.{better_of, is_below}
+use Rattle.slot_choice.proofs.VersionLemmas.{first_of_two, second_of_two, total}
 use Rattle.boot_rules.specs.Choosing.{other_of}
 use Rattle.boot_rules.specs.Chosen.{is_member, IsBetter}
 use Rattle.boot_reasons.specs.declared.looks.TakenImage.{TakenImage}
 use Rattle.boot_reasons.specs.declared.looks.UnitReason.{UnitReason}
 use Rattle.boot_reasons.specs.declared.looks.UnitReason.TheVariants.{Updated, Only, Version, Tie}
-use Rattle.boot_reasons.specs.Looks.{better_image, taken_image, taken_of}
-use Rattle.boot_reasons.specs.LookRules.{IsUpdatedOne, IsOnlyOne, IsGreaterOne, IsFirstOfEqual, IsReason, IsTakenImage, IsTakenBy}
+use Rattle.boot_reasons.specs.Looks.{better_image, taken_image, taken_of, taken_of_pair}
+use Rattle.boot_reasons.specs.LookRules.{IsUpdatedOne, IsOnlyOne, IsGreaterOne, IsOneOfEqual, IsReason, IsTakenImage, IsTakenBy}
 
 true-false : (x : Bool) → x ≡ true → x ≡ false → ⊥
 true-false x e f = cc
@@ -72,33 +72,36 @@ module _ (Has : Member → Started → Type 0) (u : SlotUnit) (image : Member �
 
       by : (lower higher : Bool) → is_below s.version t.version ≡ lower → is_below t.version s.version ≡ higher
           → IsTakenBy Has u updated
-          (if lower then taken_image B Version t else (if higher then taken_image A Version s else taken_image A Tie s))
+          (taken_of_pair (if lower then B else A) (if lower || higher then Version else Tie) s t)
       by true higher l h =
           made updated B t Version second
           (inr (λ x held. (
             never A x held,
-            subst (λ (y : Started). is_below y.version t.version ≡ true) (same A s x ia held) l,
+            subst (λ (y : Started). better_of y.version t.version ≡ B) (same A s x ia held)
+                ((second_of_two s.version t.version).1 l),
           )))
           (never B t second, (λ only. only s first), (s, first, l))
       by false true l h =
           made updated A s Version first
           (inr (λ x held. (
             never B x held,
-            subst (λ (y : Started). is_below s.version y.version ≡ false) (same B t x ib held) l,
+            subst (λ (y : Started). better_of s.version y.version ≡ A) (same B t x ib held)
+                ((first_of_two s.version t.version).1 l),
           )))
           (never A s first, (λ only. only t second), (t, second, h))
       by false false l h =
           made updated A s Tie first
           (inr (λ x held. (
             never B x held,
-            subst (λ (y : Started). is_below s.version y.version ≡ false) (same B t x ib held) l,
+            subst (λ (y : Started). better_of s.version y.version ≡ A) (same B t x ib held)
+                ((first_of_two s.version t.version).1 l),
           ))) (
             never A s first,
             (λ only. only t second),
             (λ greater. true-false (is_below t.version s.version)
                 (subst (λ (y : Started). is_below y.version s.version ≡ true)
                 (sym (same B t greater.0 ib greater.1)) greater.2) h),
-            (t, second, total t.version s.version h l, refl),
+            (t, second, total t.version s.version h l),
           )
 
   none-updated : (m : Member) (s : Started) → Has m s → IsUpdatedOne None m → ⊥
@@ -158,8 +161,8 @@ module _ (Has : Member → Started → Type 0) (u : SlotUnit) (image : Member �
 
   not-both : (m : Member) (s t : Started) → IsBetter m s.version t.version → IsBetter (other_of m) t.version s.version
       → ⊥
-  not-both A s t p q = true-false (is_below s.version t.version) q p
-  not-both B s t p q = true-false (is_below t.version s.version) p q
+  not-both A s t p q = let both : A ≡ B = sym p ∙ q in cc
+  not-both B s t p q = let both : B ≡ A = sym p ∙ q in cc
 
   -- two members are not both taken
   not-two : (updated : Option Member) (m : Member) (s t : Started) → IsTakenImage Has updated m s

@@ -7,13 +7,14 @@ use Rattle.std.specs.Prelude.{Bool, true, false, if◌then◌else◌, List, [], 
 use Rattle.std.specs.Option.{option_or}
 use Rattle.std.specs.Result.{result_ok}
 use Rattle.pico_board.specs.declared.window.Window.{Window}
+use Rattle.block_codec.specs.declared.versions.Version.{Version as VersionOf}
 use Rattle.image_def.specs.declared.started.Started.{Started}
 use Rattle.image_check.specs.declared.why.Why.{Why}
 use Rattle.slot_choice.specs.declared.unit.Member.{Member}
 use Rattle.slot_choice.specs.declared.unit.Member.TheVariants.{A, B}
 use Rattle.slot_choice.specs.declared.unit.SlotUnit.{SlotUnit}
 use Rattle.slot_choice.specs.declared.choice.Choice.{Choice}
-use Rattle.slot_choice.specs.Versions.{is_below}
+use Rattle.slot_choice.specs.Versions.{are_different, better_of}
 use Rattle.boot_rules.specs.Choosing.{choice_of}
 use Rattle.boot_rules.specs.Chosen.{is_member}
 use Rattle.boot_reasons.specs.declared.looks.UnitReport.{UnitReport}
@@ -25,14 +26,22 @@ use Rattle.boot_reasons.specs.declared.looks.UnitReason.TheVariants.{Updated, On
 abbrev pub taken_image : Member → UnitReason → Started → Option TakenImage
 taken_image m because s = Some (record { member = m; window = s.window; because = because })
 
+-- why one of two images that count is taken, by their versions
+abbrev pub pair_reason : VersionOf → VersionOf → UnitReason
+pair_reason v w = if are_different v w then Version else Tie
+
+-- of the images of both members that of this one is taken
+abbrev pub taken_of_pair : Member → UnitReason → Started → Started → Option TakenImage
+taken_of_pair A because a b = taken_image A because a
+taken_of_pair B because a b = taken_image B because b
+
 -- the image that is taken of those of two members that count, where none is the updated one's
 abbrev pub better_image : Option Started → Option Started → Option TakenImage
 better_image None None = None
 better_image None (Some b) = taken_image B Only b
 better_image (Some a) None = taken_image A Only a
 better_image (Some a) (Some b) =
-    if is_below a.version b.version then taken_image B Version b
-    else (if is_below b.version a.version then taken_image A Version a else taken_image A Tie a)
+    taken_of_pair (better_of a.version b.version) (pair_reason a.version b.version) a b
 
 -- the updated member's image is taken where it counts
 abbrev pub taken_of : Option Member → Option Started → Option Started → Option TakenImage

@@ -7,17 +7,17 @@ ghost use Rattle.sector_pool.specs.Pool.{HasFree};
 ghost use Rattle.image_check.specs.Digests.{Knows};
 ghost use Rattle.boot_rules.specs.Chosen.{is_member};
 ghost use Rattle.boot_rules.specs.Picking.{AreInside, IsInside};
-ghost use Rattle.boot_reasons.specs.Looks.{better_image, second_counted, first_choice, is_update, report_on, reported_choice, reports_of, second_image, reported_image, taken_image, taken_of};
+ghost use Rattle.boot_reasons.specs.Looks.{better_image, second_counted, first_choice, is_update, pair_reason, report_on, reported_choice, reports_of, second_image, reported_image, taken_image, taken_of};
 ghost use Rattle.boot_reasons.specs.Reasons.{results_in};
 
 use crate::looks::{TakenImage, UnitReason, UnitReport};
 use arrayvec::ArrayVec;
-use block_codec::copy_rows;
+use block_codec::{Version, copy_rows};
 use boot_rules::choice_of;
 use image_check::{Digests, Started, Why, check_by};
 use pico_board::{Board, Cpu, Window};
 use sector_pool::SectorPool;
-use slot_choice::{Choice, Member, SlotUnit, is_below};
+use slot_choice::{Choice, Member, SlotUnit, are_different, better_of};
 
 /// Whether a member is the updated one.
 fn is_member(updated: Option<Member>, member: Member) -> bool
@@ -40,17 +40,26 @@ fn taken_image(member: Member, because: UnitReason, image: &Started) -> Option<T
     })
 }
 
+/// Why one of two images that count is taken, by their versions.
+fn pair_reason(first: Version, second: Version) -> UnitReason
+    ensures { result ≡ pair_reason first second }
+{
+    if are_different(first, second) {
+        UnitReason::Version
+    } else {
+        UnitReason::Tie
+    }
+}
+
 /// Which of two images that count is taken, and why, where neither is the updated member's.
 fn better_pair(first: &Started, second: &Started) -> Option<TakenImage>
     ensures { result ≡ better_image (Some first.now) (Some second.now) }
 {
-    if is_below(first.version, second.version) {
-        return taken_image(Member::B, UnitReason::Version, second);
+    let because = pair_reason(first.version, second.version);
+    match better_of(first.version, second.version) {
+        Member::A => taken_image(Member::A, because, first),
+        Member::B => taken_image(Member::B, because, second),
     }
-    if is_below(second.version, first.version) {
-        return taken_image(Member::A, UnitReason::Version, first);
-    }
-    taken_image(Member::A, UnitReason::Tie, first)
 }
 
 /// Which image is taken of those of two members that count, and why. None is the updated member's.

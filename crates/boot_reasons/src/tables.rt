@@ -2,12 +2,12 @@
 
 ghost use Rattle.std.specs.Prelude.{◌≡◌, option_map};
 ghost use Rattle.std.specs.Result.{result_ok};
-ghost use Rattle.boot_reasons.specs.Slots.{taken_table, in_force, table_in_force};
+ghost use Rattle.boot_reasons.specs.Slots.{taken_table, in_force, pair_reason, table_in_force};
 
 use crate::slots::{TableInForce, TableReason};
-use boot_rules::SlotFault;
+use boot_rules::{SlotFault, is_first_taken};
 use part_table::Table;
-use slot_choice::is_below;
+use slot_choice::are_different;
 
 /// A slot whose table is that of the flash, and why.
 fn in_force(slot: u32, because: TableReason) -> Option<TableInForce>
@@ -16,20 +16,26 @@ fn in_force(slot: u32, because: TableReason) -> Option<TableInForce>
     Some(TableInForce { slot, because })
 }
 
+/// Why one of the tables of both slots is taken.
+fn pair_reason(first: &Table, second: &Table) -> TableReason
+    ensures { result ≡ pair_reason first.now second.now }
+{
+    if first.singleton {
+        return TableReason::Singleton;
+    }
+    if are_different(first.version, second.version) {
+        TableReason::Version
+    } else {
+        TableReason::Tie
+    }
+}
+
 /// Which of two tables is that of the flash, and why.
 fn pair_in_force(first: &Table, second: &Table) -> Option<TableInForce>
     ensures { result ≡ table_in_force (Some first.now) (Some second.now) }
 {
-    if first.singleton {
-        return in_force(0, TableReason::Singleton);
-    }
-    if is_below(first.version, second.version) {
-        return in_force(1, TableReason::Version);
-    }
-    if is_below(second.version, first.version) {
-        return in_force(0, TableReason::Version);
-    }
-    in_force(0, TableReason::Tie)
+    let slot = if is_first_taken(first, second) { 0 } else { 1 };
+    in_force(slot, pair_reason(first, second))
 }
 
 /// The slot whose table is that of the flash, by what the slots have, and why it is this one. None

@@ -205,8 +205,8 @@ module _ (c : Content) (cpu : Cpu) (images : Window → Bool → Option Started)
   one-better m n s t e h k = go m h (subst (λ (l : Member). IsBetter l t.version s.version) e k)
     where
       go : (l : Member) → IsBetter l s.version t.version → IsBetter (other_of l) t.version s.version → ⊥
-      go A p q = let both : false ≡ true = sym p ∙ q in cc
-      go B p q = let both : true ≡ false = sym p ∙ q in cc
+      go A p q = let both : A ≡ B = sym p ∙ q in cc
+      go B p q = let both : B ≡ A = sym p ∙ q in cc
 
   same-choice : (i j : Started) (m n : Member) (w v : Option Window) (a b : Bool) → i ≡ j → m ≡ n → w ≡ v → a ≡ b
       → (let x : Choice = record { image = i; member = m; other = w; updated = a } in

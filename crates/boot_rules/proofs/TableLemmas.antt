@@ -1,5 +1,5 @@
 -- The table of a slot and of a content.
-use Rattle.std.proofs.Common.{◌≡◌, ℕ, zero, suc, ◌+◌, ◌*◌, ◌/◌, ◌≤◌, Bool, true, false, ◌||◌, not, if◌then◌else◌, List, [], ◌∷◌, ◌++◌, length, take, slice_get, Option, Some, None, Result, Ok, Err, refl, sym, ap, ◌∙◌, subst, arith}
+use Rattle.std.proofs.Common.{◌≡◌, ℕ, zero, suc, ◌+◌, ◌*◌, ◌/◌, ◌≤◌, Bool, true, false, if◌then◌else◌, List, [], ◌∷◌, ◌++◌, length, take, slice_get, Option, Some, None, Result, Ok, Err, refl, sym, ap, ◌∙◌, subst, arith}
 use Rattle.std.specs.Prelude.{find, reverse, IfSome}
 use Rattle.std.specs.Result.{result_ok}
 use Rattle.std.proofs.lemmas.List.{reverse-append, take_all, take_more}
@@ -19,9 +19,8 @@ use Rattle.part_table.specs.Sound.{IsSoundTable}
 use Rattle.part_table.specs.TableOf.{has_table, table_of}
 use Rattle.part_table.proofs.TableLemmas.{faultless_from_table_of, sound_from_faultless}
 use Rattle.pico_board.specs.Content.{Content, window_bytes}
-use Rattle.slot_choice.specs.Versions.{is_below}
 use Rattle.boot_rules.specs.declared.tables.Found.{Found}
-use Rattle.boot_rules.specs.Tables.{answer_in_block, answer_in_loop, block_answer, found_of, slot_answer, slot_window, table_in}
+use Rattle.boot_rules.specs.Tables.{answer_in_block, answer_in_loop, block_answer, found_of, is_first_taken, slot_answer, slot_window, table_in}
 
 module _ (w offsets : List ℕ) (are : AreLoop w offsets) where
   -- the last block with a table, with one more block
@@ -91,7 +90,7 @@ found-from None (Some t) f e =
 found-from (Some t) None f e =
     subst (λ g. IsFoundIn (Some t) None g) (same_Some (record { slot = 0; table = t }) f e)
     (record { slot = omega arith; lower = λ h. refl; other = λ (h : 0 ≡ 1). absurd (omega arith) })
-found-from (Some t) (Some u) f e = go (t.singleton || not (is_below t.version u.version)) e
+found-from (Some t) (Some u) f e = go (is_first_taken t u) e
   where
     go : (first : Bool) → (if first then Some (record { slot = 0; table = t }) else Some
         (record { slot = 1; table = u })) ≡ Some f → IsFoundIn (Some t) (Some u) f

@@ -1,39 +1,17 @@
 -- The table that is found is the one that the rules name.
-use Rattle.std.proofs.Common.{◌≡◌, ◌⊎◌, ◌↔◌, ℕ, zero, suc, ◌≤◌, Bool, true, false, ◌||◌, not, if◌then◌else◌, Option, Some, None, refl, sym, ap, ◌∙◌, subst, inl, inr, arith}
+use Rattle.std.proofs.Common.{◌≡◌, ◌⊎◌, ◌↔◌, ℕ, zero, suc, ◌≤◌, Bool, true, false, if◌then◌else◌, Option, Some, None, refl, sym, ap, ◌∙◌, subst, inl, inr, arith}
 use Rattle.std.specs.Result.{result_ok}
 use Rattle.std.proofs.lemmas.Option.{same_Some}
 use Rattle.part_table.specs.declared.table.Table.{Table}
 use Rattle.pico_board.specs.Content.{Content}
-use Rattle.slot_choice.specs.Versions.{is_below}
 use Rattle.boot_rules.specs.declared.tables.Found.{Found}
-use Rattle.boot_rules.specs.Tables.{found_of, slot_answer_in, table_in}
+use Rattle.boot_rules.specs.Tables.{found_of, is_first_taken, slot_answer_in, table_in}
 use Rattle.boot_rules.specs.TableRules.{IsSlotTable, IsTableIn}
 use Rattle.boot_rules.proofs.SlotLemmas.{has-table, table-found, table-has}
 
 -- the table of a slot
 abbrev table_at : Content → ℕ → Option Table
 table_at c number = result_ok (slot_answer_in c number)
-
-not-below : (singleton lower : Bool) → (singleton || not lower) ≡ true → (singleton ≡ true) ⊎ (lower ≡ false)
-not-below true lower e = inl refl
-not-below false false e = inr refl
-not-below false true e = cc
-
-below : (singleton lower : Bool) → (singleton || not lower) ≡ false → (singleton ≡ false) × (lower ≡ true)
-below true lower e = cc
-below false true e = (refl, refl)
-below false false e = cc
-
-above : (singleton lower : Bool) → (singleton ≡ true) ⊎ (lower ≡ false) → (singleton || not lower) ≡ true
-above true lower e = refl
-above false false e = refl
-above false true (inl e) = cc
-above false true (inr e) = cc
-
-under : (singleton lower : Bool) → (singleton ≡ false) × (lower ≡ true) → (singleton || not lower) ≡ false
-under false true e = refl
-under true lower (is, never) = cc
-under false false (never, is) = cc
 
 found-at : (slot : ℕ) (t : Table) (f : Found) → f.slot ≡ slot → f.table ≡ t
     → Some (record { slot = slot; table = t }) ≡ Some f
@@ -44,11 +22,11 @@ found-at slot t f at is = ap (λ k. Some (record { slot = k; table = t })) (sym 
 module _ (one two : Option Table) (f : Found) where
   abbrev TakesFirst : Type 0
   TakesFirst = (f.slot ≡ 0) × (one ≡ Some f.table)
-      × ((u : Table) → two ≡ Some u → (f.table.singleton ≡ true) ⊎ (is_below f.table.version u.version ≡ false))
+      × ((u : Table) → two ≡ Some u → is_first_taken f.table u ≡ true)
 
   abbrev TakesSecond : Type 0
   TakesSecond = (f.slot ≡ 1) × (two ≡ Some f.table)
-      × ((u : Table) → one ≡ Some u → (u.singleton ≡ false) × (is_below u.version f.table.version ≡ true))
+      × ((u : Table) → one ≡ Some u → is_first_taken u f.table ≡ false)
 
 taken-of : (one two : Option Table) (f : Found) → found_of one two ≡ Some f
     → TakesFirst one two f ⊎ TakesSecond one two f
@@ -61,9 +39,9 @@ taken-of (Some t) None f e =
     subst (λ g. TakesFirst (Some t) None g ⊎ TakesSecond (Some t) None g)
     (same_Some (record { slot = 0; table = t }) f e)
     (inl (refl, refl, λ u never. cc))
-taken-of (Some t) (Some u) f e = go (t.singleton || not (is_below t.version u.version)) refl e
+taken-of (Some t) (Some u) f e = go (is_first_taken t u) refl e
   where
-    go : (yes : Bool) → (t.singleton || not (is_below t.version u.version)) ≡ yes
+    go : (yes : Bool) → is_first_taken t u ≡ yes
         → (if yes then Some (record { slot = 0; table = t }) else Some (record { slot = 1; table = u })) ≡ Some f
         → TakesFirst (Some t) (Some u) f ⊎ TakesSecond (Some t) (Some u) f
     go true is same =
@@ -72,8 +50,7 @@ taken-of (Some t) (Some u) f e = go (t.singleton || not (is_below t.version u.ve
         (inl (
           refl,
           refl,
-          λ v at. subst (λ (x : Table). (t.singleton ≡ true) ⊎ (is_below t.version x.version ≡ false))
-              (same_Some u v at) (not-below t.singleton (is_below t.version u.version) is),
+          λ v at. subst (λ x. is_first_taken t x ≡ true) (same_Some u v at) is,
         ))
     go false is same =
         subst (λ g. TakesFirst (Some t) (Some u) g ⊎ TakesSecond (Some t) (Some u) g)
@@ -81,8 +58,7 @@ taken-of (Some t) (Some u) f e = go (t.singleton || not (is_below t.version u.ve
         (inr (
           refl,
           refl,
-          λ v at. subst (λ (x : Table). (x.singleton ≡ false) × (is_below x.version u.version ≡ true))
-              (same_Some t v at) (below t.singleton (is_below t.version u.version) is),
+          λ v at. subst (λ x. is_first_taken x u ≡ false) (same_Some t v at) is,
         ))
 
 first-of : (one two : Option Table) (f : Found) → TakesFirst one two f → found_of one two ≡ Some f
@@ -90,10 +66,9 @@ first-of None two f (at, never, over) = cc
 first-of (Some t) None f takes = found-at 0 t f takes.0 (sym (same_Some t f.table takes.1))
 first-of (Some t) (Some u) f takes =
     let same : t ≡ f.table = same_Some t f.table takes.1 in
-    let over : (t.singleton ≡ true) ⊎ (is_below t.version u.version ≡ false) =
-    subst (λ (x : Table). (x.singleton ≡ true) ⊎ (is_below x.version u.version ≡ false)) (sym same) (takes.2 u refl) in
+    let over : is_first_taken t u ≡ true = subst (λ x. is_first_taken x u ≡ true) (sym same) (takes.2 u refl) in
     ap (λ yes. if yes then Some (record { slot = 0; table = t }) else Some (record { slot = 1; table = u }))
-    (above t.singleton (is_below t.version u.version) over)
+    over
     ∙ found-at 0 t f takes.0 (sym same)
 
 second-of : (one two : Option Table) (f : Found) → TakesSecond one two f → found_of one two ≡ Some f
@@ -102,10 +77,9 @@ second-of (Some t) None f (at, never, over) = cc
 second-of None (Some u) f takes = found-at 1 u f takes.0 (sym (same_Some u f.table takes.1))
 second-of (Some t) (Some u) f takes =
     let same : u ≡ f.table = same_Some u f.table takes.1 in
-    let over : (t.singleton ≡ false) × (is_below t.version u.version ≡ true) =
-    subst (λ (x : Table). (t.singleton ≡ false) × (is_below t.version x.version ≡ true)) (sym same) (takes.2 t refl) in
+    let under : is_first_taken t u ≡ false = subst (λ x. is_first_taken t x ≡ false) (sym same) (takes.2 t refl) in
     ap (λ yes. if yes then Some (record { slot = 0; table = t }) else Some (record { slot = 1; table = u }))
-    (under t.singleton (is_below t.version u.version) over)
+    under
     ∙ found-at 1 u f takes.0 (sym same)
 
 pub table-words : (c : Content) (f : Found) → (table_in c ≡ Some f) ↔ IsTableIn c f
@@ -138,7 +112,7 @@ none-of : (one two : Option Table) → found_of one two ≡ None → (one ≡ No
 none-of None None e = (refl, refl)
 none-of None (Some u) e = cc
 none-of (Some t) None e = cc
-none-of (Some t) (Some u) e = absurd (go (t.singleton || not (is_below t.version u.version)) e)
+none-of (Some t) (Some u) e = absurd (go (is_first_taken t u) e)
   where
     go : (yes : Bool) → (let o : Option Found = if yes then Some (record { slot = 0; table = t })
         else Some (record { slot = 1; table = u }) in o)

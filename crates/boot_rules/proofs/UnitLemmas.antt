@@ -7,7 +7,8 @@ use Rattle.slot_choice.specs.declared.unit.Member.{Member}
 use Rattle.slot_choice.specs.declared.unit.Member.TheVariants.{A, B}
 use Rattle.slot_choice.specs.declared.unit.SlotUnit.{SlotUnit}
 use Rattle.slot_choice.specs.declared.choice.Choice.{Choice}
-use Rattle.slot_choice.specs.Versions.{better, is_below}
+use Rattle.slot_choice.specs.Versions.{better, better_of, is_below}
+use Rattle.slot_choice.proofs.VersionLemmas.{first_of_two, second_of_two}
 use Rattle.boot_rules.specs.Choosing.{member_image, other_of, choice_of, of_better, version_of_image, unit_choice}
 use Rattle.slot_choice.specs.Units.{member_window}
 use Rattle.boot_rules.specs.Chosen.{is_member, IsBetter}
@@ -94,8 +95,8 @@ module _ (u : SlotUnit) (image : Member → Option Started) where
             image_is = ib;
             best = inr (
               (λ x (not_it : false ≡ true). cc),
-              λ x held. ap (λ v. is_below v t.version)
-                  (sym (version-is (image A) s x ia held)) ∙ is,
+              λ x held. ap (λ v. better_of v t.version) (sym (version-is (image A) s x ia held))
+                  ∙ (second_of_two s.version t.version).1 is,
             );
             other = refl;
             updated_is = refl;
@@ -105,8 +106,8 @@ module _ (u : SlotUnit) (image : Member → Option Started) where
             image_is = ia;
             best = inr (
               (λ x (not_it : false ≡ true). cc),
-              λ x held. ap (λ v. is_below s.version v)
-                  (sym (version-is (image B) t x ib held)) ∙ is,
+              λ x held. ap (λ v. better_of s.version v) (sym (version-is (image B) t x ib held))
+                  ∙ (first_of_two s.version t.version).1 is,
             );
             other = refl;
             updated_is = refl;

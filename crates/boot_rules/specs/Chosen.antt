@@ -14,7 +14,7 @@ use Rattle.slot_choice.specs.declared.unit.Member.{Member}
 use Rattle.slot_choice.specs.declared.unit.Member.TheVariants.{A, B}
 use Rattle.slot_choice.specs.declared.unit.SlotUnit.{SlotUnit}
 use Rattle.slot_choice.specs.declared.choice.Choice.{Choice}
-use Rattle.slot_choice.specs.Versions.{is_below}
+use Rattle.slot_choice.specs.Versions.{better_of}
 use Rattle.image_check.specs.Valid.{Valid}
 use Rattle.boot_rules.specs.declared.decision.Decision.{Decision}
 use Rattle.boot_rules.specs.declared.decision.Decision.TheVariants.{Start, Bootsel}
@@ -45,10 +45,10 @@ pub record Counts (c : Content) (cpu : Cpu) (order : Order) (place : ℕ) (u : S
   pub valid : Valid c window cpu (is_updated order place m) s
 
 -- a member whose image has the first version is better than the other one, whose image has the
--- second. The greater version is better, and A is where they are equal
+-- second
 abbrev pub IsBetter : Member → Version → Version → Type 0
-IsBetter A version other = is_below version other ≡ false
-IsBetter B version other = is_below other version ≡ true
+IsBetter A version other = better_of version other ≡ A
+IsBetter B version other = better_of other version ≡ B
 
 -- neither is the updated member's image passed over, nor that of a better member
 pub record IsBest (c : Content) (cpu : Cpu) (order : Order) (place : ℕ) (u : SlotUnit) (m : Member)

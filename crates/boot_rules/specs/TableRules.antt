@@ -12,11 +12,10 @@ use Rattle.part_table.specs.declared.table.Table.{Table}
 use Rattle.part_table.specs.declared.table.TableFault.{TableFault}
 use Rattle.part_table.specs.TableOf.{has_table}
 use Rattle.part_table.specs.Rules.{IsReadTo}
-use Rattle.slot_choice.specs.Versions.{is_below}
 use Rattle.boot_rules.specs.declared.slots.SlotFault.{SlotFault}
 use Rattle.boot_rules.specs.declared.slots.SlotFault.TheVariants.{Loop, NoTable, Table as Faulty}
 use Rattle.boot_rules.specs.declared.tables.Found.{Found}
-use Rattle.boot_rules.specs.Tables.{slot_window}
+use Rattle.boot_rules.specs.Tables.{is_first_taken, slot_window}
 
 -- the bytes of slot 0 or 1
 abbrev pub slot_bytes : Content → ℕ → List ℕ
@@ -50,18 +49,15 @@ IsSlotAnswer c number (Err (Faulty fault)) = IsSlotRead c number (Err fault)
 abbrev pub IsSlotTable : Content → ℕ → Table → Type 0
 IsSlotTable c number t = IsSlotAnswer c number (Ok t)
 
--- t is the table of slot 0 and is taken: it is a singleton, or no table of slot 1 is of a greater
--- version
+-- t is the table of slot 0, and is taken also where slot 1 has a table
 pub record IsFirstTable (c : Content) (t : Table) : Type 0 where
   pub stands : IsSlotTable c 0 t
-  pub taken : (u : Table) → IsSlotTable c 1 u
-      → (t.singleton ≡ true) ⊎ (is_below t.version u.version ≡ false)
+  pub taken : (u : Table) → IsSlotTable c 1 u → is_first_taken t u ≡ true
 
--- t is the table of slot 1 and is taken: a table of slot 0 is no singleton and of a lower version
+-- t is the table of slot 1, and a table of slot 0 is not taken
 pub record IsSecondTable (c : Content) (t : Table) : Type 0 where
   pub stands : IsSlotTable c 1 t
-  pub taken : (u : Table) → IsSlotTable c 0 u
-      → (u.singleton ≡ false) × (is_below u.version t.version ≡ true)
+  pub taken : (u : Table) → IsSlotTable c 0 u → is_first_taken u t ≡ false
 
 -- `table_in` in words: the table of slot 0 or that of slot 1, whichever is taken
 abbrev pub IsTableIn : Content → Found → Type 0

@@ -1,6 +1,6 @@
 -- What each table slot has or lacks, and the partition table of a flash (RP2350 Datasheet, chapter
 -- 5, "Partition tables"; the choice between two tables is this project's own).
-use Rattle.std.specs.Prelude.{ℕ, ◌*◌, ◌/◌, ◌||◌, not, if◌then◌else◌, List, length, reverse, find, Option, Some, None, option_map, Result, Ok, Err}
+use Rattle.std.specs.Prelude.{ℕ, Bool, ◌*◌, ◌/◌, ◌||◌, not, if◌then◌else◌, List, length, reverse, find, Option, Some, None, option_map, Result, Ok, Err}
 use Rattle.std.specs.Result.{result_ok}
 use Rattle.pico_board.specs.declared.window.Window.{Window}
 use Rattle.pico_board.specs.Content.{Content, window_bytes}
@@ -47,15 +47,17 @@ slot_answer_in c number =
     slot_answer (length c.flash / 4096) (2 * size / 4096)
     (window_bytes c (slot_window size number))
 
--- slot 0's table where it is a singleton; otherwise of two the one of greater version, slot 0 on a
--- tie; otherwise the only one
+-- of the tables of both slots slot 0's is taken: it is a singleton, or not of a lower version
+abbrev pub is_first_taken : Table → Table → Bool
+is_first_taken first second = first.singleton || not (is_below first.version second.version)
+
+-- of two tables the one that is taken; otherwise the only one
 abbrev pub found_of : Option Table → Option Table → Option Found
 found_of None None = None
 found_of None (Some second) = Some (record { slot = 1; table = second })
 found_of (Some first) None = Some (record { slot = 0; table = first })
 found_of (Some first) (Some second) =
-    if first.singleton || not (is_below first.version second.version)
-    then Some (record { slot = 0; table = first })
+    if is_first_taken first second then Some (record { slot = 0; table = first })
     else Some (record { slot = 1; table = second })
 
 -- the table of a content with its slot, or none: TableIn. Why a slot has none is forgotten.

@@ -27,6 +27,6 @@ pub use part_table::Target;
 pub use picking::choice_of;
 pub use slot_choice::Choice;
 pub use slots::SlotFault;
-pub use tables::{Found, find_table, slot_answer};
+pub use tables::{Found, find_table, is_first_taken, slot_answer};
 pub use targets::{is_executable, target, target_by};
 pub use units::{boot_units_by, boot_units_in, order_of};

@@ -8,7 +8,7 @@ ghost use Rattle.part_table.specs.Sound.{IsSoundTable};
 ghost use Rattle.part_table.specs.TableOf.{has_table, table_of};
 ghost use Rattle.pico_board.specs.Content.{window_bytes};
 ghost use Rattle.boot_rules.specs.TableRules.{IsSlotAnswer};
-ghost use Rattle.boot_rules.specs.Tables.{block_answer, found_of, slot_answer, slot_answer_in, table_in};
+ghost use Rattle.boot_rules.specs.Tables.{block_answer, found_of, is_first_taken, slot_answer, slot_answer_in, table_in};
 
 use crate::slots::SlotFault;
 use block_codec::Block;
@@ -120,6 +120,14 @@ pub fn slot_answer<B: Board>(board: &B, number: u32) -> Result<Table, SlotFault>
     slot_answer_in(board, number)
 }
 
+/// Whether of the tables of both slots the first is taken: it is a singleton, or not of a lower
+/// version than the second.
+pub fn is_first_taken(first: &Table, second: &Table) -> bool
+    ensures { result ≡ is_first_taken first.now second.now }
+{
+    first.singleton || !is_below(first.version, second.version)
+}
+
 /// Which of the tables of the two slots is the one of the flash.
 fn found_of(first: Option<Table>, second: Option<Table>) -> Option<Found>
     ensures { result ≡ found_of first second }
@@ -129,7 +137,7 @@ fn found_of(first: Option<Table>, second: Option<Table>) -> Option<Found>
         (None, Some(table)) => Some(Found { slot: 1, table }),
         (Some(table), None) => Some(Found { slot: 0, table }),
         (Some(table), Some(other)) => {
-            if table.singleton || !is_below(table.version, other.version) {
+            if is_first_taken(&table, &other) {
                 Some(Found { slot: 0, table })
             } else {
                 Some(Found {

@@ -3,8 +3,9 @@ use Rattle.std.proofs.Common.{◌≡◌, ◌≢◌, ◌↔◌, if◌then◌else�
 use Rattle.std.proofs.lemmas.Bool.Decides.{nat_tests}
 use Rattle.block_codec.specs.declared.versions.Version.{Version}
 use Rattle.part_table.proofs.TestLemmas.{never_false}
+use Rattle.slot_choice.specs.declared.unit.Member.{Member}
 use Rattle.slot_choice.specs.declared.unit.Member.TheVariants.{A, B}
-use Rattle.slot_choice.specs.Versions.{is_below, better}
+use Rattle.slot_choice.specs.Versions.{is_below, better, better_of}
 
 below_numbers_irreflexive : (a b : ℕ) → (nat_lt a a || (a == a && nat_lt b b)) ≡ false
 below_numbers_irreflexive a b = grind (arith, nat_tests)
@@ -44,6 +45,22 @@ chosen_a false e = refl
 -- B is better exactly where A's version is below
 pub second_better : (v w : Version) → (better (Some v) (Some w) ≡ Some B) ↔ (is_below v w ≡ true)
 second_better v w = (chosen_b (is_below v w), λ below. ap (λ yes. Some (if yes then B else A)) below)
+
+taken_a : (yes : Bool) → (if yes then B else A) ≡ A → yes ≡ false
+taken_a true e = cc
+taken_a false e = refl
+
+taken_b : (yes : Bool) → (if yes then B else A) ≡ B → yes ≡ true
+taken_b true e = refl
+taken_b false e = cc
+
+-- the first of two versions is better exactly where it is not below
+pub first_of_two : (v w : Version) → (better_of v w ≡ A) ↔ (is_below v w ≡ false)
+first_of_two v w = (taken_a (is_below v w), λ above. ap (λ yes. if yes then B else A) above)
+
+-- the second of two versions is better exactly where the first is below
+pub second_of_two : (v w : Version) → (better_of v w ≡ B) ↔ (is_below v w ≡ true)
+second_of_two v w = (taken_b (is_below v w), λ below. ap (λ yes. if yes then B else A) below)
 
 -- A is better where the versions are equal
 pub tie : (v : Version) → better (Some v) (Some v) ≡ Some A

@@ -2,7 +2,7 @@
 
 ghost use Rattle.std.specs.Prelude.{◌≡◌, ◌<◌, IfSome, length, position};
 ghost use Rattle.slot_choice.specs.Updates.{has_member_at, member_at, update_order, updated_member};
-ghost use Rattle.slot_choice.specs.Versions.{better, is_below};
+ghost use Rattle.slot_choice.specs.Versions.{are_different, better, better_of, is_below};
 
 use crate::unit::{Member, SlotUnit};
 use arrayvec::ArrayVec;
@@ -53,8 +53,22 @@ pub fn is_below(version: Version, other: Version) -> bool
     version.major < other.major || (version.major == other.major && version.minor < other.minor)
 }
 
-/// The better member of a unit by the versions of its members' images: the greater version, and A
-/// on a tie. A member without a valid image has no version. None exactly where both are None.
+/// Whether one of two versions is below the other.
+pub fn are_different(version: Version, other: Version) -> bool
+    ensures { result ≡ are_different version other }
+{
+    is_below(version, other) || is_below(other, version)
+}
+
+/// Which of two versions is better, A's or B's: the greater, and A's on a tie.
+pub fn better_of(a: Version, b: Version) -> Member
+    ensures { result ≡ better_of a b }
+{
+    if is_below(a, b) { Member::B } else { Member::A }
+}
+
+/// The better member of a unit by the versions of its members' images. A member without a valid
+/// image has no version. None exactly where both are None.
 pub fn better(a: Option<Version>, b: Option<Version>) -> Option<Member>
     ensures { result ≡ better a b }
 {
@@ -62,12 +76,6 @@ pub fn better(a: Option<Version>, b: Option<Version>) -> Option<Member>
         (None, None) => None,
         (Some(_), None) => Some(Member::A),
         (None, Some(_)) => Some(Member::B),
-        (Some(first), Some(second)) => {
-            if is_below(first, second) {
-                Some(Member::B)
-            } else {
-                Some(Member::A)
-            }
-        }
+        (Some(first), Some(second)) => Some(better_of(first, second)),
     }
 }

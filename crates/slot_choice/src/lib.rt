@@ -13,6 +13,6 @@ mod unit;
 mod units;
 
 pub use choice::Choice;
-pub use choosing::{better, is_below, update_first};
+pub use choosing::{are_different, better, better_of, is_below, update_first};
 pub use unit::{Member, SlotUnit};
 pub use units::{boot_units, load_unit, second_of, unit_of};

@@ -15,22 +15,22 @@ use Rattle.image_check.proofs.LawLemmas.{at-valid, valid-at}
 use Rattle.slot_choice.specs.declared.unit.Member.{Member}
 use Rattle.slot_choice.specs.declared.unit.Member.TheVariants.{A, B}
 use Rattle.slot_choice.specs.declared.choice.Choice.{Choice}
-use Rattle.slot_choice.specs.Versions.{better, is_below}
-use Rattle.trial_buy.specs.Starting.{erase_of, is_other_better, other_erase, other_image}
+use Rattle.slot_choice.specs.Versions.{better, better_of}
+use Rattle.trial_buy.specs.Starting.{erase_of, is_other_better, is_second, other_erase, other_image}
 
-better-by : (below : Bool) → (below ≡ true) ↔ ((let m : Option Member = Some (cond below B A) in m) ≡ Some B)
-better-by true = (λ e. refl, λ e. refl)
-better-by false = (λ e. cc, λ e. cc)
+better-by : (m : Member) → (is_second m ≡ true) ↔ (Some m ≡ Some B)
+better-by A = (λ e. cc, λ e. cc)
+better-by B = (λ e. refl, λ e. refl)
 
-first-by : (below : Bool) → (not below ≡ true) ↔ ((let m : Option Member = Some (cond below B A) in m) ≡ Some A)
-first-by true = (λ e. cc, λ e. cc)
-first-by false = (λ e. refl, λ e. refl)
+first-by : (m : Member) → (not (is_second m) ≡ true) ↔ (Some m ≡ Some A)
+first-by A = (λ e. refl, λ e. refl)
+first-by B = (λ e. cc, λ e. cc)
 
 pub beside-a : (v w : Version) → (is_other_better A v w ≡ true) ↔ (better (Some v) (Some w) ≡ Some B)
-beside-a v w = better-by (is_below v w)
+beside-a v w = better-by (better_of v w)
 
 pub beside-b : (v w : Version) → (is_other_better B v w ≡ true) ↔ (better (Some w) (Some v) ≡ Some A)
-beside-b v w = first-by (is_below w v)
+beside-b v w = first-by (better_of w v)
 
 -- an image that is valid is the other member's image
 valid-image : (c : Content) (cpu : Cpu) (w : Window) (s : Started) → Valid c w cpu false s

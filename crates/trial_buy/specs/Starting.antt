@@ -1,6 +1,6 @@
 -- What a start writes: `start_steps` (RP2350 Datasheet, chapter 5, "A/B versions" and "Flash
 -- update boot"; the details are this project's own).
-use Rattle.std.specs.Prelude.{ℕ, ◌/◌, Bool, false, not, ◌&&◌, List, [], ◌∷◌, ◌++◌, if◌then◌else◌, Option, Some, None}
+use Rattle.std.specs.Prelude.{ℕ, ◌/◌, Bool, true, false, not, ◌&&◌, List, [], ◌∷◌, ◌++◌, if◌then◌else◌, Option, Some, None}
 use Rattle.std.specs.Result.{result_ok}
 use Rattle.pico_board.specs.declared.Step.{Step}
 use Rattle.pico_board.specs.declared.Step.TheVariants.{Erase}
@@ -13,14 +13,17 @@ use Rattle.otp_roll.specs.Raises.{raises}
 use Rattle.slot_choice.specs.declared.unit.Member.{Member}
 use Rattle.slot_choice.specs.declared.unit.Member.TheVariants.{A, B}
 use Rattle.slot_choice.specs.declared.choice.Choice.{Choice}
-use Rattle.slot_choice.specs.Versions.{is_below}
+use Rattle.slot_choice.specs.Versions.{better_of}
 use Rattle.image_check.specs.Image.{image_at}
 
--- the other member's image is better than the started one: it has the greater version, or the same
--- one where B was started
+abbrev pub is_second : Member → Bool
+is_second A = false
+is_second B = true
+
+-- the other member's image is better than the started one
 abbrev pub is_other_better : Member → Version → Version → Bool
-is_other_better A started other = is_below started other
-is_other_better B started other = not (is_below other started)
+is_other_better A started other = is_second (better_of started other)
+is_other_better B started other = not (is_second (better_of other started))
 
 -- the image of the other member, valid in a normal boot
 abbrev pub other_image : Content → Cpu → Option Window → Option Started

@@ -9,7 +9,7 @@ ghost use Rattle.image_check.specs.Valid.{Valid};
 ghost use Rattle.otp_roll.specs.Rows.{AreRollbackRows, IsRollbackVersion};
 ghost use Rattle.sector_pool.specs.Keeping.{KeepsOut};
 ghost use Rattle.sector_pool.specs.Pool.{HasFree};
-ghost use Rattle.trial_buy.specs.Starting.{erase_in, image_raises, is_other_better, other_erase, other_image, raises_of, settling, start_erase, start_steps};
+ghost use Rattle.trial_buy.specs.Starting.{erase_in, image_raises, is_other_better, is_second, other_erase, other_image, raises_of, settling, start_erase, start_steps};
 ghost use Rattle.part_table.specs.Windows.{IsPlacedIn};
 ghost use Rattle.trial_buy.specs.Windows.{IsPlacedChoice};
 
@@ -18,15 +18,25 @@ use image_check::{Digests, Started, check_by};
 use otp_roll::raise_to;
 use pico_board::{Board, Cpu, PowerLost, Window};
 use sector_pool::SectorPool;
-use slot_choice::{Choice, Member, is_below};
+use slot_choice::{Choice, Member, better_of};
+
+/// Whether a member is the second one of its unit.
+fn is_second(member: Member) -> bool
+    ensures { result ≡ is_second member }
+{
+    match member {
+        Member::A => false,
+        Member::B => true,
+    }
+}
 
 /// Whether the other member's image is better than the started one.
 fn is_other_better(member: Member, started: Version, other: Version) -> bool
     ensures { result ≡ is_other_better member started other }
 {
     match member {
-        Member::A => is_below(started, other),
-        Member::B => !is_below(other, started),
+        Member::A => is_second(better_of(started, other)),
+        Member::B => !is_second(better_of(other, started)),
     }
 }
 
