@@ -1,13 +1,13 @@
 -- The choice in a unit by the images of a member and of the other one.
-use Rattle.std.proofs.Common.{◌≡◌, Bool, true, false, not, cond, Option, Some, None, refl, ap, ◌∙◌}
+use Rattle.std.proofs.Common.{◌≡◌, true, false, not, Option, Some, None, refl, ap, ◌∙◌}
 use Rattle.pico_board.specs.declared.window.Window.{Window}
 use Rattle.image_def.specs.declared.started.Started.{Started}
 use Rattle.slot_choice.specs.declared.unit.Member.{Member}
 use Rattle.slot_choice.specs.declared.unit.Member.TheVariants.{A, B}
 use Rattle.slot_choice.specs.declared.unit.SlotUnit.{SlotUnit}
 use Rattle.slot_choice.specs.declared.choice.Choice.{Choice}
-use Rattle.slot_choice.specs.Versions.{better, is_below}
-use Rattle.trial_buy.specs.Starting.{is_other_better}
+use Rattle.slot_choice.specs.Versions.{better, better_of}
+use Rattle.trial_buy.specs.Starting.{is_other_better, is_second}
 use Rattle.boot_rules.specs.Choosing.{choice_of, member_image, of_better, other_of, unit_choice, version_of_image}
 
 ap2 : {X Y Z : Type 0} (k : X → Y → Z) (a b : X) (c d : Y) → a ≡ b → c ≡ d → k a c ≡ k b d
@@ -32,26 +32,34 @@ pub data IsWorse (m : Member) (s : Started) (b : Option Started) : Type 0 where
   no_image : b ≡ None → IsWorse m s b
   not_better : (t : Started) → b ≡ Some t → is_other_better m s.version t.version ≡ false → IsWorse m s b
 
-not-true : (below : Bool) → not below ≡ false → below ≡ true
-not-true true e = refl
-not-true false e = cc
+second : (m : Member) → is_second m ≡ true → m ≡ B
+second A e = cc
+second B e = refl
 
-not-false : (below : Bool) → not below ≡ true → below ≡ false
-not-false true e = cc
-not-false false e = refl
+not-second : (m : Member) → is_second m ≡ false → m ≡ A
+not-second A e = refl
+not-second B e = cc
 
-by-below : (u : SlotUnit) (a b : Started) (below : Bool) → is_below a.version b.version ≡ below
-    → in_order u (Some a) (Some b) ≡ of_better u (Some (cond below B A)) (Some a) (Some b)
-by-below u a b below e = ap (λ yes. of_better u (Some (cond yes B A)) (Some a) (Some b)) e
+first : (m : Member) → not (is_second m) ≡ true → m ≡ A
+first A e = refl
+first B e = cc
+
+not-first : (m : Member) → not (is_second m) ≡ false → m ≡ B
+not-first A e = cc
+not-first B e = refl
+
+by-better : (u : SlotUnit) (a b : Started) (m : Member) → better_of a.version b.version ≡ m
+    → in_order u (Some a) (Some b) ≡ of_better u (Some m) (Some a) (Some b)
+by-better u a b m e = ap (λ n. of_better u (Some n) (Some a) (Some b)) e
 
 -- an image is taken where the other one is worse
 pub takes-mine : (m : Member) (u : SlotUnit) (s : Started) (b : Option Started) → IsWorse m s b
     → pair_choice m u (Some s) b ≡ Some (choice_of u m false s)
 takes-mine A u s b (no_image e) = ap (in_order u (Some s)) e
 takes-mine B u s b (no_image e) = ap (λ o. in_order u o (Some s)) e
-takes-mine A u s b (not_better t e is) = ap (in_order u (Some s)) e ∙ by-below u s t false is
+takes-mine A u s b (not_better t e is) = ap (in_order u (Some s)) e ∙ by-better u s t A (not-second (better_of s.version t.version) is)
 takes-mine B u s b (not_better t e is) =
-    ap (λ o. in_order u o (Some s)) e ∙ by-below u t s true (not-true (is_below t.version s.version) is)
+    ap (λ o. in_order u o (Some s)) e ∙ by-better u t s B (not-first (better_of t.version s.version) is)
 
 -- this member has no image, or one that is worse than the other one
 pub data IsBeaten (m : Member) (a : Option Started) (t : Started) : Type 0 where
@@ -62,6 +70,6 @@ pub takes-other : (m : Member) (u : SlotUnit) (a : Option Started) (t : Started)
     → pair_choice m u a (Some t) ≡ Some (choice_of u (other_of m) false t)
 takes-other A u a t (absent e) = ap (λ o. in_order u o (Some t)) e
 takes-other B u a t (absent e) = ap (in_order u (Some t)) e
-takes-other A u a t (beaten s e is) = ap (λ o. in_order u o (Some t)) e ∙ by-below u s t true is
+takes-other A u a t (beaten s e is) = ap (λ o. in_order u o (Some t)) e ∙ by-better u s t B (second (better_of s.version t.version) is)
 takes-other B u a t (beaten s e is) =
-    ap (in_order u (Some t)) e ∙ by-below u t s false (not-false (is_below t.version s.version) is)
+    ap (in_order u (Some t)) e ∙ by-better u t s A (first (better_of t.version s.version) is)

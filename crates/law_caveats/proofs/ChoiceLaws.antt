@@ -1,5 +1,5 @@
 -- No caveat, no doubt: ties, and updates that move a unit.
-use Rattle.std.proofs.Common.{◌≡◌, ◌≢◌, ℕ, zero, suc, ◌-◌, nat_le, Bool, true, false, cond, if◌then◌else◌, List, [], ◌∷◌, length, slice_get, position, Option, Some, None, is_some, option_map, option_and_then, refl, sym, ap, ◌∙◌, subst, inl, inr, arith}
+use Rattle.std.proofs.Common.{◌≡◌, ◌≢◌, ℕ, zero, suc, ◌-◌, nat_le, Bool, true, false, ◌||◌, cond, if◌then◌else◌, List, [], ◌∷◌, length, slice_get, position, Option, Some, None, is_some, option_map, option_and_then, refl, sym, ap, ◌∙◌, subst, inl, inr, arith}
 use Rattle.std.specs.Prelude.{Contains, find, option_to_list}
 use Rattle.std.specs.Option.{option_map_or, option_or}
 use Rattle.std.specs.Result.{result_ok}
@@ -23,13 +23,13 @@ use Rattle.slot_choice.specs.Units.{tableless_unit, units}
 use Rattle.slot_choice.specs.Updates.{has_member_at, member_at, moved_to_front}
 use Rattle.slot_choice.specs.Versions.{better, is_below}
 use Rattle.slot_choice.proofs.PlaceLemmas.{boot_unit}
-use Rattle.slot_choice.proofs.VersionLemmas.{irreflexive, transitive}
+use Rattle.slot_choice.proofs.VersionLemmas.{first_of_two, irreflexive, transitive}
 use Rattle.boot_rules.specs.Choosing.{boot_units_in, choose, images_in, of_better, order_of, ordered_choice, unit_choice, version_of_image}
 use Rattle.boot_rules.specs.Chosen.{Chosen}
 use Rattle.boot_rules.specs.Tables.{table_of_content}
 use Rattle.boot_reasons.specs.declared.looks.UnitReport.{UnitReport}
 use Rattle.boot_reasons.specs.declared.looks.UnitReason.TheVariants.{Version as Greater, Tie as IsTied}
-use Rattle.boot_reasons.specs.Looks.{better_image, report_on, reports_of, taken_image, taken_of}
+use Rattle.boot_reasons.specs.Looks.{better_image, pair_reason, report_on, reports_of, taken_image, taken_of, taken_of_pair}
 use Rattle.boot_reasons.specs.Reasons.{reasons_in, reports_in, results_in}
 use Rattle.boot_reasons.proofs.LookLemmas.{choice-of-unit, second-counted, takes-choice}
 use Rattle.slot_caveats.specs.declared.caveat.Caveat.{Caveat}
@@ -96,9 +96,9 @@ module _ (c : Content) (cpu : Cpu) where
       tied : (s t : Started) → is_below s.version t.version ≡ false → is_below t.version s.version ≡ false
           → better_image (Some s) (Some t) ≡ taken_image A IsTied s
       tied s t l h =
-          ap (λ b. cond b (taken_image B Greater t)
-          (cond (is_below t.version s.version) (taken_image A Greater s) (taken_image A IsTied s))) l
-          ∙ ap (λ b. cond b (taken_image A Greater s) (taken_image A IsTied s)) h
+          ap (λ m. taken_of_pair m (pair_reason s.version t.version) s t) ((first_of_two s.version t.version).1 l)
+          ∙ ap (λ b. taken_image A (if b then Greater else IsTied) s)
+          (ap (λ b. b || is_below t.version s.version) l ∙ h)
 
       pair : (o : Option Window) → u.b ≡ o → (t : Started)
           → option_and_then (λ w. images_in c cpu w false) o ≡ Some t → (w : Window) × (u.b ≡ Some w)

@@ -11,6 +11,7 @@ use Rattle.slot_choice.specs.declared.unit.Member.TheVariants.{A, B}
 use Rattle.slot_choice.specs.declared.unit.SlotUnit.{SlotUnit}
 use Rattle.slot_choice.specs.declared.choice.Choice.{Choice}
 use Rattle.slot_choice.specs.Versions.{is_below}
+use Rattle.slot_choice.proofs.VersionLemmas.{first_of_two, second_of_two}
 use Rattle.boot_rules.specs.Choosing.{images_in, member_image, other_of}
 use Rattle.boot_rules.specs.Chosen.{IsBetter, is_member}
 use Rattle.boot_rules.specs.Picking.{taken, taken_member}
@@ -43,7 +44,8 @@ module _ (c : Content) (cpu : Cpu) (u : SlotUnit) where
     best = λ w other pair valid lower.
         let held : member_image (images_in c cpu) u B false ≡ Some other =
         ap (option_and_then (λ (x : Window). images_in c cpu x false)) pair ∙ valid-found c cpu w false other valid in
-        let better : is_below s.version other.version ≡ false = best other held in
+        let better : is_below s.version other.version ≡ false =
+        (first_of_two s.version other.version).0 (best other held) in
         let below : is_below s.version other.version ≡ true = lower-below s.version other.version lower in
         cc (better, below);
   }
@@ -55,7 +57,7 @@ module _ (c : Content) (cpu : Cpu) (u : SlotUnit) where
           image = s;
           valid = found-valid c cpu found.0 false s found.2;
           best = λ other valid. below-lower other.version s.version
-              (best other (valid-found c cpu u.a false other valid));
+              ((second_of_two other.version s.version).0 (best other (valid-found c cpu u.a false other valid)));
         },
       )
 
