@@ -2,8 +2,8 @@
 //!
 //! `specs/Machines` says what a machine is, `specs/Boots`, `specs/Serving` and `specs/Moves` what
 //! each event does in each state, as a function of the content, without cuts; Moves and Plays are
-//! the table of the machine with its cuts. `specs/Plays` has it as a function, where the board tells
-//! its armed cut. `specs/Standing` says what the parts of the code stand for.
+//! the table of the machine with its cuts. `specs/Plays` has it as a function, where the board
+//! tells its armed cut. `specs/Standing` says what the parts of the code stand for.
 #![tactic(auto)]
 
 mod booting;

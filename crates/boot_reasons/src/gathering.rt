@@ -155,8 +155,8 @@ fn reasons_of<B: Board>(
     }
 }
 
-/// Why a boot decides as it does, as `gather` tells it, with what is remembered of digests. A digest
-/// that is remembered is not made again.
+/// Why a boot decides as it does, as `gather` tells it, with what is remembered of digests. A
+/// digest that is remembered is not made again.
 pub fn gather_by<B: Board>(
     board: &B,
     pool: &mut SectorPool,

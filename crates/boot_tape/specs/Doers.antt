@@ -1,5 +1,5 @@
 -- Who does each move of a script.
-use Rattle.std.specs.Prelude.{ℕ, ◌-◌, nat_lt, ◌||◌, Bool, List, [], ◌∷◌, ◌++◌, replicate}
+use Rattle.std.specs.Prelude.{ℕ, ◌-◌, nat_lt, ◌||◌, Bool, true, false, List, [], ◌∷◌, ◌++◌, replicate}
 use Rattle.boot_tape.specs.declared.notes.Behind.{Behind}
 use Rattle.boot_tape.specs.declared.notes.Behind.TheVariants as behinds
 use Rattle.boot_tape.specs.declared.notes.Doer.{Doer}
@@ -20,6 +20,12 @@ note_doers note = replicate note.own Host ++ doers_behind note.behind (note.move
 abbrev pub doers : List Note → List Doer
 doers [] = []
 doers (note ∷ notes) = note_doers note ++ doers notes
+
+-- a boot makes the moves that are not a host's own
+abbrev pub is_boot : Behind → Bool
+is_boot (behinds.Boot kind) = true
+is_boot behinds.Nothing = false
+is_boot (behinds.Buy image) = false
 
 -- a host's event did all steps of its own: power was lost in none, or in the boot behind them
 abbrev pub is_own_whole : Note → Bool

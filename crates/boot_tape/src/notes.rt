@@ -1,7 +1,7 @@
 //! What is noted of the events of a script, and who does each of its moves.
 
 ghost use Rattle.std.specs.Prelude.{◌≡◌, ◌++◌, IfOk, OnOk, replicate};
-ghost use Rattle.boot_tape.specs.Doers.{doers, doers_behind, note_doers};
+ghost use Rattle.boot_tape.specs.Doers.{doers, doers_behind, is_boot, note_doers};
 
 use boot_rules::Started;
 use pico_board::BootKind;
@@ -28,6 +28,16 @@ pub enum Behind {
     Boot(BootKind),
     /// This image, which runs, buys itself.
     Buy(Started),
+}
+
+/// Whether a boot makes the moves.
+pub fn is_boot(behind: &Behind) -> bool
+    ensures { result ≡ is_boot behind.now }
+{
+    match behind {
+        Behind::Boot(_) => true,
+        Behind::Nothing | Behind::Buy(_) => false,
+    }
 }
 
 /// What is noted of an event of a script.

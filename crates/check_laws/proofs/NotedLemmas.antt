@@ -29,7 +29,8 @@ use Rattle.boot_tape.proofs.NoteLemmas.{own-moves}
 use Rattle.check_laws.specs.declared.found.SessionFound.{SessionFound}
 use Rattle.check_laws.specs.declared.found.SessionFound.TheVariants as found
 use Rattle.check_laws.specs.declared.found.Reason.TheVariants as reasons
-use Rattle.check_laws.specs.Hosting.{are_hosts, boot_count, ends, fits, host_done, hosted_events, hosting, is_boot, is_hosted_on, is_noted}
+use Rattle.check_laws.specs.Hosting.{are_hosts, boot_count, ends, fits, host_done, hosted_events, hosting, is_hosted_on, is_noted}
+use Rattle.boot_tape.specs.Doers.{is_boot}
 use Rattle.check_laws.specs.Hosts.{AreServed, IsHosts, first_content, served_at, HostWrites}
 use Rattle.check_laws.specs.SessionLaws.{host_steps, IsSessionLaw, IsStepsLaw, IsWritten}
 use Rattle.check_laws.proofs.HostLemmas.{AreOwn, hosted-is, own-apart, hosts-is, is-hosts}

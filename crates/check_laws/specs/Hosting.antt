@@ -13,9 +13,8 @@ use Rattle.boot_machine.specs.Boots.{entered}
 use Rattle.boot_machine.specs.Machines.{StateView}
 use Rattle.boot_machine.specs.Serving.{is_hosted}
 use Rattle.boot_sweep.specs.Moving.{MoveView}
-use Rattle.boot_tape.specs.declared.notes.Behind.{Behind}
-use Rattle.boot_tape.specs.declared.notes.Behind.TheVariants as behinds
 use Rattle.boot_tape.specs.declared.notes.Note.{Note}
+use Rattle.boot_tape.specs.Doers.{is_boot}
 use Rattle.boot_tape.specs.Moving.{does_step, done_steps}
 use Rattle.check_laws.specs.Hosts.{is_own, served_at}
 
@@ -43,12 +42,6 @@ hosted_events _ = None
 abbrev pub is_hosted_on : Content → Cpu → Option (List EventView) → Bool
 is_hosted_on c cpu None = false
 is_hosted_on c cpu (Some events) = hosting c cpu (entered c) None false events
-
--- a boot makes moves that are not a host's own
-abbrev pub is_boot : Behind → Bool
-is_boot (behinds.Boot kind) = true
-is_boot behinds.Nothing = false
-is_boot (behinds.Buy image) = false
 
 -- a host's script may go on with the event, where the host's events are over or not
 abbrev pub fits : Bool → EventView → Bool

@@ -13,7 +13,7 @@ use Rattle.boot_sweep.specs.Refusals.{gains_table, is_start_in, ungated_in}
 use Rattle.check_laws.specs.declared.found.Reason.TheVariants as reasons
 use Rattle.check_laws.specs.declared.found.SessionFound.{SessionFound}
 use Rattle.check_laws.specs.declared.found.SessionFound.TheVariants as found
-use Rattle.check_laws.specs.declared.session.Slot.{Slot}
+use Rattle.check_laws.specs.declared.session.SlotBefore.{SlotBefore}
 
 -- of steps that keep to the window, in which no image runs, and that leave the table
 abbrev pub held_law : Content → List Step → Window → Bool → SessionFound
@@ -30,6 +30,6 @@ slot_law c cpu z steps w staged =
     else held_law c steps w staged
 
 -- what the content before the steps tells of the window that they keep to
-abbrev pub slot_seen : Content → Cpu → Window → Slot
+abbrev pub slot_seen : Content → Cpu → Window → SlotBefore
 slot_seen c cpu w =
     record { window = w; starts = is_start_in w (decision_in c cpu Normal); table = table_in c }

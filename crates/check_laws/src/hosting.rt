@@ -4,11 +4,11 @@ ghost use Rattle.std.specs.Prelude.{◌≡◌, None, Some, drop, false, true};
 ghost use Rattle.boot_script.specs.Events.{event_from};
 ghost use Rattle.boot_script.specs.Scripts.{script_events};
 ghost use Rattle.boot_machine.specs.Serving.{is_hosted};
-ghost use Rattle.check_laws.specs.Hosting.{are_hosts, ends, fits, hosted_events, is_boot, is_noted};
+ghost use Rattle.check_laws.specs.Hosting.{are_hosts, ends, fits, hosted_events, is_noted};
 ghost use Rattle.check_laws.specs.Hosts.{is_own};
 
 use boot_script::{Event, Events, Script};
-use boot_tape::{Behind, Note};
+use boot_tape::{Note, is_boot};
 use pico_board::BootKind;
 
 /// Whether the event is for a host.
@@ -28,16 +28,6 @@ fn is_own(event: &Event<'_>) -> bool
     match event {
         Event::Reset(BootKind::Normal) | Event::Buy => true,
         _ => false,
-    }
-}
-
-/// Whether a boot makes the moves.
-fn is_boot(behind: &Behind) -> bool
-    ensures { result ≡ is_boot behind.now }
-{
-    match behind {
-        Behind::Boot(_) => true,
-        Behind::Nothing | Behind::Buy(_) => false,
     }
 }
 

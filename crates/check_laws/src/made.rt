@@ -244,8 +244,8 @@ fn laws_on(
     Ok(laws)
 }
 
-/// Which laws speak of the writes of a script's boots, and of its buys, on a powered board. The trace
-/// is that of the script from this board on. It fails only where memory is out.
+/// Which laws speak of the writes of a script's boots, and of its buys, on a powered board. The
+/// trace is that of the script from this board on. It fails only where memory is out.
 pub fn write_laws(
     alloc: Global,
     board: &MemBoard,

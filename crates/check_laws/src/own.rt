@@ -41,8 +41,8 @@ fn starts_image(decision: &Decision, image: &Started) -> bool
     }
 }
 
-/// Whether the flash has a table, and the steps of this image raise no row of a triple that an image
-/// of another boot unit lists.
+/// Whether the flash has a table, and the steps of this image raise no row of a triple that an
+/// image of another boot unit lists.
 pub(crate) fn raises_own(
     board: &MemBoard,
     pool: &mut SectorPool,

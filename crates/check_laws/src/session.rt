@@ -42,7 +42,7 @@ fn session_slot(board: &MemBoard, cpu: Cpu, steps: &[Step]) -> Option<Window>
 
 /// What the board before the steps of a host tells of the slot that they write.
 #[derive(Drop)]
-struct Slot {
+struct SlotBefore {
     /// The member of a pair in which the first step lies.
     window: Window,
     /// Whether a normal boot starts an image of it.
@@ -52,7 +52,12 @@ struct Slot {
 }
 
 /// The slot of a host's steps, on the board before them.
-fn slot_before(board: &MemBoard, pool: &mut SectorPool, cpu: Cpu, steps: &[Step]) -> Option<Slot>
+fn slot_before(
+    board: &MemBoard,
+    pool: &mut SectorPool,
+    cpu: Cpu,
+    steps: &[Step],
+) -> Option<SlotBefore>
     requires power { IsTrue (state_of board.now).powered }
     requires free { HasFree pool.old }
     ensures free { HasFree pool.new }
@@ -64,7 +69,7 @@ fn slot_before(board: &MemBoard, pool: &mut SectorPool, cpu: Cpu, steps: &[Step]
     match session_slot(board, cpu, steps) {
         Some(window) => {
             let former = decide(board, pool, cpu, BootKind::Normal);
-            Some(Slot {
+            Some(SlotBefore {
                 window,
                 starts: is_start_in(window, &former),
                 table: find_table(board),
@@ -75,7 +80,7 @@ fn slot_before(board: &MemBoard, pool: &mut SectorPool, cpu: Cpu, steps: &[Step]
 }
 
 /// The law of steps that keep to the slot, in which no image runs, and that leave the table.
-fn held_law(slot: &Slot, steps: &[Step], staged: bool) -> SessionFound
+fn held_law(slot: &SlotBefore, steps: &[Step], staged: bool) -> SessionFound
     requires few { length steps.now ≤ step_limit }
     ensures { (c : Content) → slot.now.table ≡ table_in c
         → result ≡ held_law c steps.now slot.now.window staged }
@@ -95,7 +100,7 @@ fn held_law(slot: &Slot, steps: &[Step], staged: bool) -> SessionFound
 }
 
 /// The law of steps that lead to this board, by the slot that they write.
-fn slot_law(end: &MemBoard, slot: &Slot, steps: &[Step], staged: bool) -> SessionFound
+fn slot_law(end: &MemBoard, slot: &SlotBefore, steps: &[Step], staged: bool) -> SessionFound
     requires power { IsTrue (state_of end.now).powered }
     requires few { length steps.now ≤ step_limit }
     ensures { (c : Content) (cpu : Processor) → slot.now ≡ slot_seen c cpu slot.now.window
@@ -168,8 +173,8 @@ fn written_law(
     Ok(steps_law(&mut copy, &mut pool, cpu, &steps))
 }
 
-/// The law of a script's session on a powered board. The trace is that of the script from this board
-/// on. It fails only where memory is out.
+/// The law of a script's session on a powered board. The trace is that of the script from this
+/// board on. It fails only where memory is out.
 pub fn session_law(
     alloc: Global,
     board: &MemBoard,

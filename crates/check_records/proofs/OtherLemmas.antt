@@ -29,7 +29,8 @@ use Rattle.boot_machine.specs.Plays.{moved_machine, told_cut}
 use Rattle.boot_tape.specs.Traces.{behind, behind_asked, came_of, note_of}
 use Rattle.boot_tape.proofs.TraceLemmas.{cut-steps}
 use Rattle.check_records.specs.declared.downloads.Kind.{Kind}
-use Rattle.check_records.specs.Seeing.{is_boot, is_other, is_over, is_start, starts, unless_lost}
+use Rattle.check_records.specs.Seeing.{is_other, is_over, is_start, starts, unless_lost}
+use Rattle.boot_tape.specs.Doers.{is_boot}
 use Rattle.check_records.specs.Shares.{kind_at, other_share, share_at, share_of}
 use Rattle.check_records.proofs.BlockLemmas.{decided-none, kind_there}
 

@@ -9,10 +9,8 @@ use Rattle.text_lines.specs.declared.outcome.EventOutcome.TheVariants as events
 use Rattle.boot_script.specs.Events.{EventView}
 use Rattle.boot_machine.specs.Machines.{StateView, InBootsel}
 use Rattle.boot_machine.specs.Standing.{placing_at}
-use Rattle.boot_tape.specs.declared.notes.Behind.{Behind}
-use Rattle.boot_tape.specs.declared.notes.Behind.TheVariants as behinds
 use Rattle.boot_tape.specs.declared.notes.Note.{Note}
-use Rattle.boot_tape.specs.Doers.{is_own_whole}
+use Rattle.boot_tape.specs.Doers.{is_boot, is_own_whole}
 use Rattle.check_records.specs.declared.downloads.Beginning.{Beginning}
 use Rattle.check_records.specs.declared.downloads.Kind.{Kind}
 use Rattle.check_records.specs.declared.downloads.Share.{Share}
@@ -50,11 +48,6 @@ starts _ = false
 abbrev pub is_start : EventOutcome → Bool
 is_start (events.Command c) = starts c.answer
 is_start _ = false
-
-abbrev pub is_boot : Behind → Bool
-is_boot (behinds.Boot kind) = true
-is_boot behinds.Nothing = false
-is_boot (behinds.Buy image) = false
 
 -- no download is current behind an event that is no block in BOOTSEL
 abbrev pub is_over : Note → Bool

@@ -34,8 +34,8 @@ fn again_by(unerased: Option<usize>, other_table: bool, begins: bool, other_clas
 ///
 /// `unerased` is the first step of its trace that programs a page whose sector no step before it
 /// erases. `other_table` says that a loss of power leaves another partition table, and
-/// `other_class` that one has another class than `former` and `bootsel`. `begins` says that an event
-/// begins a download.
+/// `other_class` that one has another class than `former` and `bootsel`. `begins` says that an
+/// event begins a download.
 pub fn again_of(
     unerased: Option<usize>,
     other_table: bool,

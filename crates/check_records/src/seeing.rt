@@ -8,7 +8,7 @@ ghost use Rattle.boot_script.specs.Events.{event_from};
 ghost use Rattle.boot_script.specs.Scripts.{script_events};
 ghost use Rattle.boot_tape.specs.Playing.{IsTraceOf};
 ghost use Rattle.check_records.specs.Records.{records_of};
-ghost use Rattle.check_records.specs.Seeing.{alone_in, current_kind, found_of, is_block, is_boot, is_over, is_start, other_seen, records_seen, share_seen, starts};
+ghost use Rattle.check_records.specs.Seeing.{alone_in, current_kind, found_of, is_block, is_over, is_start, other_seen, records_seen, share_seen, starts};
 ghost use Rattle.check_records.specs.Shares.{block_share, continues, stage_of, stage_of_accepted, stage_of_block};
 
 use crate::downloads::{Beginning, Kind, Share, Stage, is_like, kind_of};
@@ -16,7 +16,7 @@ use crate::found::Records;
 use crate::noting::Downloads;
 use crate::refusals::Refusals;
 use boot_script::{Event, Script};
-use boot_tape::{Behind, Note, Trace};
+use boot_tape::{Note, Trace, is_boot};
 use std::alloc::{AllocError, Global};
 use text_lines::{BlockOutcome, CommandAnswer, EventOutcome};
 use uf2_place::{Accepted, Uf2, read_uf2};
@@ -131,16 +131,6 @@ fn is_start(outcome: &EventOutcome) -> bool
     match outcome {
         EventOutcome::Command(command) => starts(&command.answer),
         _ => false,
-    }
-}
-
-/// Whether a boot is made.
-fn is_boot(behind: &Behind) -> bool
-    ensures { result ≡ is_boot behind.now }
-{
-    match behind {
-        Behind::Boot(_) => true,
-        Behind::Nothing | Behind::Buy(_) => false,
     }
 }
 

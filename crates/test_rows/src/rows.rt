@@ -1,6 +1,7 @@
-//! Rows as lines tell them. `row NAME` begins a row; `arg WORD` is a word of its run, `status N` its
-//! status, and `put-fails` says that its sink takes no byte. `file NAME` is an input, `want NAME` a
-//! file that has to be written, and `stdout` the text. Behind each of these three stands a content.
+//! Rows as lines tell them. `row NAME` begins a row; `arg WORD` is a word of its run, `status N`
+//! its status, and `put-fails` says that its sink takes no byte. `file NAME` is an input, `want
+//! NAME` a file that has to be written, and `stdout` the text. Behind each of these three stands a
+//! content.
 
 use crate::content::{blank, number_in, put_line};
 use crate::row::{Row, named};

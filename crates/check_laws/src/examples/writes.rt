@@ -80,8 +80,8 @@ pub fn what_notes_and_moves_tell()
         } ∷ [] }
 {}
 
-/// A boot does its steps from the content before it on. Where the script cuts the second one, it does
-/// the first alone. So does a trial image that buys itself.
+/// A boot does its steps from the content before it on. Where the script cuts the second one, it
+/// does the first alone. So does a trial image that buys itself.
 pub fn boots_and_buys_of_a_script()
     ensures boot { (c : Content) (cpu : Cpu) (one two : Step)
         → (booted c cpu Normal None).steps ≡ (one ∷ two ∷ [])

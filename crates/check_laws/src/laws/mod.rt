@@ -65,8 +65,8 @@ pub fn a_gated_law_holds()
         ⊎ StartsFinished (after_all (first_content c cpu) (host_steps c cpu events)) d cpu }
 {}
 
-/// The same where `staged` is told of a window. That a cut before a step needs no premise is the law
-/// on staged sessions.
+/// The same where `staged` is told of a window. That a cut before a step needs no premise is the
+/// law on staged sessions.
 pub fn a_staged_law_holds()
     ensures { (c : Content) (cpu : Cpu) (events : List EventView) (w : Window) (d : Content)
         → IsContent c → IsSessionLaw c cpu events (Staged w)

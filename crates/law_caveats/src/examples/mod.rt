@@ -1,5 +1,5 @@
-//! Worked examples of the other rules, proved by computing: each is the `ensures` of a function that
-//! does nothing.
+//! Worked examples of the other rules, proved by computing: each is the `ensures` of a function
+//! that does nothing.
 
 pub mod flashes;
 pub mod starts;
@@ -41,8 +41,8 @@ pub fn versions_by_another_rule()
 
 /// Flashes of 12 KiB on which a boot by another rule starts an image, and the model none, with the
 /// caveats of the model's answer: an image in slot 0 with a table in slot 1; one whose block has a
-/// table behind its first item; one for the other processor, whose caveat `boots_of_both_processors`
-/// has; and one without a rollback version where one is required.
+/// table behind its first item; one for the other processor, whose caveat
+/// `boots_of_both_processors` has; and one without a rollback version where one is required.
 pub fn starts_by_another_rule()
     ensures slot { started_window (decision_slots
         (three_sectors 0 0 (sector_with (arm_word ∷ []))

@@ -1,6 +1,6 @@
-//! Worked examples of flashes on which a boot by another rule decides otherwise than the model, with
-//! the caveats of the model's answer, proved by computing: each is the `ensures` of a function that
-//! does nothing.
+//! Worked examples of flashes on which a boot by another rule decides otherwise than the model,
+//! with the caveats of the model's answer, proved by computing: each is the `ensures` of a function
+//! that does nothing.
 
 ghost use Rattle.std.specs.Prelude.{◌≡◌, [], ◌∷◌, Some};
 ghost use Rattle.pico_board.specs.declared.boot.BootKind.TheVariants.{Normal, Update};
@@ -60,7 +60,8 @@ pub fn boots_by_the_order_of_items()
         ≡ Caveat.ItemOrder (window_at 0 0x3000) ∷ [] }
 {}
 
-/// A boot that wants the first block within 4096 bytes starts no image whose block ends behind them.
+/// A boot that wants the first block within 4096 bytes starts no image whose block ends behind
+/// them.
 pub fn boots_by_the_end_of_a_first_block()
     ensures other { decision_early late_block_flash Arm Normal ≡ Bootsel Fall.NoImage }
     ensures model { started_window (decision_in late_block_flash Arm Normal)

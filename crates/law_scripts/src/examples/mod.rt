@@ -1,5 +1,5 @@
-//! Worked examples of what the laws speak of, proved by computing: which rows a text of `list` has, the numbers of words that are not of their form, and
-//! commands that differ in their token.
+//! Worked examples of what the laws speak of, proved by computing: which rows a text of `list` has,
+//! the numbers of words that are not of their form, and commands that differ in their token.
 
 ghost use Rattle.std.specs.Prelude.{◌≡◌, [], ◌∷◌, codes, filter};
 ghost use Rattle.boot_script.specs.Events.{PowerOn};

@@ -18,10 +18,10 @@ ghost use Rattle.check_laws.specs.Hosts.{first_content};
 ghost use Rattle.check_laws.specs.SessionLaws.{IsSessionLaw, host_steps};
 ghost use Rattle.law_staged.specs.Staged.{StagedSession, StartsAsBefore};
 
-/// Let power be lost before a step of a staged session on one slot of a pair, of which a normal boot
-/// before it starts no image. Then the flash has the table that it had, and the next normal boot
-/// decides as before; an image that it starts has the same bytes. This asks for no luck: there is no
-/// premise on accidental images, on digests or on tables.
+/// Let power be lost before a step of a staged session on one slot of a pair, of which a normal
+/// boot before it starts no image. Then the flash has the table that it had, and the next normal
+/// boot decides as before; an image that it starts has the same bytes. This asks for no luck: there
+/// is no premise on accidental images, on digests or on tables.
 pub fn nothing_is_half_written()
     ensures { (c : Content) (w : Window) (cpu : Cpu) (steps done others : List Step) (step : Step)
         (e : Decision)

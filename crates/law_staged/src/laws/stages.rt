@@ -66,8 +66,8 @@ pub fn the_session_of_a_stage()
     a_range_is_allowed_byte_by_byte();
 }
 
-/// The page that a script of `stage` writes last is one of the slot's first sector and has a byte of
-/// the image, as the law above asks.
+/// The page that a script of `stage` writes last is one of the slot's first sector and has a byte
+/// of the image, as the law above asks.
 pub fn the_last_page_of_a_stage_is_the_images()
     ensures { (c : Content) (cpu : Cpu) (image out : List ℕ) (o : AnswerView)
         (is : IsStageOf c cpu image out o)

@@ -27,8 +27,8 @@ pub fn a_boot_that_raises_a_row()
     ensures same { StartsTheSame Arm a_rise }
 {}
 
-/// All premises of the law of boots at once. Power comes back to the flash of that image. It is lost
-/// in the second raise of the boot, where one of two bits is raised.
+/// All premises of the law of boots at once. Power comes back to the flash of that image. It is
+/// lost in the second raise of the boot, where one of two bits is raised.
 pub fn premises_of_the_law_of_boots()
     ensures on { IsOnBoard (rising_images 0 0 0) Arm (PowerOn ∷ []) }
     ensures law { IsBootLaw (rising_images 0 0 0) Arm (PowerOn ∷ []) Kept }

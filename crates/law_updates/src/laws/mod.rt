@@ -63,8 +63,8 @@ pub fn a_start_goes_on()
 {}
 
 /// Played again. The events are those of a host, from BOOTSEL on as it is entered on the content c:
-/// c1, where they are those of a host's script. Let each program of their session follow an erase of
-/// its sector, and let a loss of power in the session leave d, with the table of c. Let each UF2
+/// c1, where they are those of a host's script. Let each program of their session follow an erase
+/// of its sector, and let a loss of power in the session leave d, with the table of c. Let each UF2
 /// block that asks for the target of its family, since it is not skipped and continues no download,
 /// have the same one on d as on c. Then the session that the events make on d leads to the end of
 /// the one on c. It has the same steps where no two OTP writes name one row. Of two that do, the
@@ -86,10 +86,10 @@ pub fn a_script_that_is_played_again()
 
 /// Played again and again. Let each program of the session follow an erase of its sector. Let power
 /// be lost any number of times: in the session, and then each time in the one that is played again
-/// on what was left. Boots in between may raise rows that no OTP write of the events names, and that
-/// are in no triple of the image in RAM that they start. Each content that is played on has the
-/// table of c, and gives each block that asks for a target the same one. Then, once the session is
-/// played to its end, the content is the one that it would have come to, with the rows that the
+/// on what was left. Boots in between may raise rows that no OTP write of the events names, and
+/// that are in no triple of the image in RAM that they start. Each content that is played on has
+/// the table of c, and gives each block that asks for a target the same one. Then, once the session
+/// is played to its end, the content is the one that it would have come to, with the rows that the
 /// boots raised raised as well. The session does the same steps each time, where no two OTP writes
 /// name one row.
 pub fn a_script_that_is_played_often()
@@ -108,8 +108,8 @@ pub fn a_script_that_is_played_often()
 
 /// What normal boots leave, each of them done or cut by a loss of power, is what raises leave. They
 /// raise no row before the first one that an image may list. So boots between two playings of the
-/// events do what `IsLeftAfter` says of them, where each row that they raise is one that no OTP write
-/// of the events names, and is in no triple of the image in RAM that these start.
+/// events do what `IsLeftAfter` says of them, where each row that they raise is one that no OTP
+/// write of the events names, and is in no triple of the image in RAM that these start.
 pub fn boots_raise_rows_alone()
     ensures listed { (c : Content) (cpu : Cpu) (row : ℕ) → IsRaisedBy c cpu row
         → FIRST_ROW ≤ row }
@@ -119,9 +119,10 @@ pub fn boots_raise_rows_alone()
         × (y ≡ after_all x raises) }
 {}
 
-/// What `again yes` says of a host's script. Each program of the host's steps follows an erase of its
-/// sector in these steps. So the law above holds of it, where what it is played on has the table of
-/// the content at the host's first event, and gives each block that asks for a target the same one.
+/// What `again yes` says of a host's script. Each program of the host's steps follows an erase of
+/// its sector in these steps. So the law above holds of it, where what it is played on has the
+/// table of the content at the host's first event, and gives each block that asks for a target the
+/// same one.
 pub fn the_line_again_holds()
     ensures erased { (c : Content) (cpu : Cpu) (events : List EventView) (pattern : List ℕ) (k : ℕ)
         → IsHosts c cpu events → IsAgain c cpu events pattern Yes

@@ -42,12 +42,13 @@ pub fn boots_that_are_kept()
         → Chosen d cpu Normal former ⊎ StartsFinished (after_all b.before b.done) d cpu }
 {}
 
-/// What `law buy=kept` says, of the buy of a trial image that runs. It does all steps of the buy, or
-/// the first ones, where power is lost in the next. Let the content before it have a table, and let
-/// no image of another boot unit list a row whose triple shares a row with one that the buy raises.
-/// Then what a loss of power in the steps that it does leaves boots as before them, or starts whole
-/// what starts after them. But where an erase or a program is cut, this may leave an accidental
-/// image in the window that the step writes. So it may start half-written, where it has no digest.
+/// What `law buy=kept` says, of the buy of a trial image that runs. It does all steps of the buy,
+/// or the first ones, where power is lost in the next. Let the content before it have a table, and
+/// let no image of another boot unit list a row whose triple shares a row with one that the buy
+/// raises. Then what a loss of power in the steps that it does leaves boots as before them, or
+/// starts whole what starts after them. But where an erase or a program is cut, this may leave an
+/// accidental image in the window that the step writes. So it may start half-written, where it has
+/// no digest.
 pub fn buys_that_are_kept()
     ensures { (m n : MachineView) (b : BuyMade) (k : ℕ) (step : Step) (d : Content)
         (former : Decision)
@@ -80,8 +81,9 @@ pub fn boots_of_a_script()
         → b.done ≢ [] → (choice : Choice) × BeginsBoot cpu b choice }
 {}
 
-/// What the buys of a script do. Each buy is made on the content of a board. One that does a step is
-/// that of a trial image that runs, and the steps that it completes are the first ones of the buy.
+/// What the buys of a script do. Each buy is made on the content of a board. One that does a step
+/// is that of a trial image that runs, and the steps that it completes are the first ones of the
+/// buy.
 pub fn buys_of_a_script()
     ensures content { (c : Content) (cpu : Cpu) (events : List EventView) (b : BuyMade)
         → IsOnBoard c cpu events → Contains (buys_in (powerless c cpu) events) b
@@ -92,11 +94,11 @@ pub fn buys_of_a_script()
         → (n : MachineView) × RunsTrial (powerless c cpu) n b.choice × BeginsBuy n b }
 {}
 
-/// The line `law boot=kept` of a script, brought to its boots. Let power be lost in one of the steps
-/// that a boot of the script completes, whatever bytes that tears. Then what is left boots as before
-/// the boot, or starts whole what starts after the steps that it completes: those of a whole start,
-/// or the first ones, where a cut of the script's own falls due in it. But a cut erase or program may
-/// leave an accidental image in the window that it writes.
+/// The line `law boot=kept` of a script, brought to its boots. Let power be lost in one of the
+/// steps that a boot of the script completes, whatever bytes that tears. Then what is left boots as
+/// before the boot, or starts whole what starts after the steps that it completes: those of a whole
+/// start, or the first ones, where a cut of the script's own falls due in it. But a cut erase or
+/// program may leave an accidental image in the window that it writes.
 pub fn the_law_of_boots_holds()
     ensures { (c : Content) (cpu : Cpu) (events : List EventView) (b : BootMade) (choice : Choice)
         (k : ℕ) (step : Step) (d : Content) (former : Decision)
@@ -110,8 +112,8 @@ pub fn the_law_of_boots_holds()
 
 /// The line `law buy=kept` of a script, brought to its buys. Let power be lost in one of the steps
 /// that a buy of the script completes, whatever bytes that tears. Then what is left boots as before
-/// the buy, or starts whole what starts after the steps that it completes. But a cut erase or program
-/// may leave an accidental image in the window that it writes.
+/// the buy, or starts whole what starts after the steps that it completes. But a cut erase or
+/// program may leave an accidental image in the window that it writes.
 pub fn the_law_of_buys_holds()
     ensures { (c : Content) (cpu : Cpu) (events : List EventView) (b : BuyMade) (k : ℕ)
         (step : Step) (d : Content) (former : Decision)
