@@ -12,6 +12,7 @@
 # make interface  writes the completions and the manual's synopsis anew, as the program's own --help has them
 # make faults     compares the page of faults with the program's code; needs no program
 # make faults-io  makes each file call of each command fail in turn; needs strace
+# make plays      counts that cuts and check play a script once; needs gdb
 # make fuzz       changes the example files at random for a quarter of an hour, and looks at how each command ends
 # make board      makes the cases for a board, compares their sheet, tries the kit on a board's stand-in that fails, and plays
 #                 all cases on the program in a board's place
@@ -48,7 +49,7 @@ NEWER = program=$$(ls -t $(PROVED) $(UNPROVED) 2> /dev/null | head -n 1); \
 	if [ -z "$$program" ]; then echo 'There is no program: "make demo" builds one, and "make" a proved one.' >&2; exit 1; fi; \
 	echo "With $$program:"
 
-.PHONY: all demo test prove edits rows pack examples readme interface faults faults-io fuzz board record real pictures install uninstall dist bench
+.PHONY: all demo test prove edits rows pack examples readme interface faults faults-io plays fuzz board record real pictures install uninstall dist bench
 
 all:
 	cd crates/boot_cli && rt run -- boot data/flash data/otp arm normal
@@ -92,6 +93,9 @@ faults:
 
 faults-io:
 	@$(NEWER); python3 tools/faults_of_io.py "$$program"
+
+plays:
+	@$(NEWER); python3 tools/plays.py "$$program"
 
 fuzz:
 	@$(NEWER); python3 tools/fuzz.py "$$program"
