@@ -1,5 +1,5 @@
 -- The choice in a unit by the images of a member and of the other one.
-use Rattle.std.proofs.Common.{◌≡◌, true, false, not, Option, Some, None, refl, ap, ◌∙◌}
+use Rattle.std.proofs.Common.{◌≡◌, Bool, true, false, not, Option, Some, None, refl, ap, ◌∙◌}
 use Rattle.pico_board.specs.declared.window.Window.{Window}
 use Rattle.image_def.specs.declared.started.Started.{Started}
 use Rattle.slot_choice.specs.declared.unit.Member.{Member}
