@@ -1,5 +1,6 @@
 pub mod RedoneLemmas
 mod PageLemmas
+mod DerivedLemmas
 pub mod ResultLemmas
 mod LineLemmas
 mod VerdictLemmas
