@@ -1,7 +1,7 @@
 //! The names of caveats: the first word of each line.
 
 ghost use Rattle.std.specs.Prelude.{◌≡◌};
-ghost use Rattle.check_require.specs.Names.{caveat_name, caveat_named, is_of_files, is_same_name};
+ghost use Rattle.check_require.specs.Names.{caveat_name, caveat_named, is_of_files};
 
 /// The name of a caveat.
 #[derive(Clone, Copy, PartialEq, Eq, Debug)]
@@ -171,12 +171,5 @@ impl CaveatName {
                 | CaveatName::RawCritical
                 | CaveatName::ShortFlash
         )
-    }
-
-    /// Whether two caveats have one name.
-    pub(crate) fn is_same(self, other: CaveatName) -> bool
-        ensures { result ≡ is_same_name self other }
-    {
-        self.name() == other.name()
     }
 }

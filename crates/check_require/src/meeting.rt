@@ -2,7 +2,7 @@
 
 ghost use Rattle.std.specs.Prelude.{◌≡◌, ◌≤◌, filter, length, not};
 ghost use Rattle.std.specs.List.{list_all};
-ghost use Rattle.check_require.specs.Meeting.{allows, are_cuts_allowed, has_data, has_effect, has_version, is_covered, is_hashed, is_kept, is_law_of, is_met, is_overwritten, is_same_allowance, is_written_well, keeps_rows, may_come, may_come_by, some_bootsel, some_mixed, some_tail, some_whole, still_starts, unmet, verdict_on};
+ghost use Rattle.check_require.specs.Meeting.{allows, are_cuts_allowed, has_data, has_effect, has_version, is_covered, is_hashed, is_kept, is_law_of, is_met, is_overwritten, is_written_well, keeps_rows, may_come, may_come_by, some_bootsel, some_mixed, some_tail, some_whole, still_starts, unmet, verdict_on};
 ghost use Rattle.check_require.specs.Reports.{report_from};
 ghost use Rattle.check_require.specs.Requires.{require_from};
 
@@ -72,18 +72,11 @@ fn has_data(same_decision: bool, window: &DataFound) -> bool
         && (!same_decision || matches!(window.of, DataOwner::Both))
 }
 
-/// Whether two are the same.
-fn is_same_allowance(one: Allowance, other: Allowance) -> bool
-    ensures { result ≡ is_same_allowance one other }
-{
-    one == other
-}
-
 /// Whether it is listed what a loss of power may leave.
 fn allows(listed: &[Allowance], allowance: Allowance) -> bool
     ensures { result ≡ allows listed.now allowance }
 {
-    listed.iter().any(|&one| is_same_allowance(allowance, one))
+    listed.contains(&allowance)
 }
 
 /// Whether some cut or the end starts a half-written image.
@@ -199,7 +192,7 @@ fn is_kept(law: LawOfWrites) -> bool
 fn may_come_by(found: &CaveatFound, allowed: &AllowedCaveat) -> bool
     ensures { result ≡ may_come_by found.now allowed.now }
 {
-    found.name.is_same(allowed.name) && (!allowed.only_in_cuts || !found.at_end)
+    found.name == allowed.name && (!allowed.only_in_cuts || !found.at_end)
 }
 
 /// Whether a caveat that is found may come.
