@@ -1,7 +1,7 @@
 //! What the tables of the slots say that the model does not read or judges otherwise.
 
 ghost use Rattle.std.specs.Prelude.{◌≡◌, ◌<◌, ◌≤◌, ◌++◌, OnOk, length, option_map};
-ghost use Rattle.slot_caveats.specs.TableCaveats.{are_tied, is_same_table, range_of, short_flash, table_tie, unread_caveats, unread_families, unread_side, unread_targets};
+ghost use Rattle.slot_caveats.specs.TableCaveats.{are_tied, range_of, short_flash, table_tie, unread_caveats, unread_families, unread_side, unread_targets};
 ghost use Rattle.std.specs.List.{filter_map, range_with_len};
 
 use crate::caveat::{Caveat, add};
@@ -88,21 +88,11 @@ pub fn add_unread(table: Option<&Table>, list: &mut Vec<Caveat>) -> Result<(), A
     add_unread_sides(table.parts.as_slice(), list)
 }
 
-/// Whether two tables are the same.
-fn are_same(table: &Table, other: &Table) -> bool
-    ensures { result ≡ is_same_table table.now other.now }
-{
-    table == other
-}
-
 /// Whether two tables are of one version and differ, and the first is no singleton.
 fn are_tied(table: &Table, other: &Table) -> bool
     ensures { result ≡ are_tied table.now other.now }
 {
-    !table.singleton
-        && table.version.major == other.version.major
-        && table.version.minor == other.version.minor
-        && !are_same(table, other)
+    !table.singleton && table.version == other.version && table != other
 }
 
 /// The slots have different tables of one version.
