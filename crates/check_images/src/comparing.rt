@@ -3,11 +3,9 @@
 ghost use Rattle.std.specs.Prelude.{◌≡◌, ◌≢◌, ◌+◌, ◌≤◌, ◌↔◌, IsTrue, length, option_map, slice_range, true};
 ghost use Rattle.pico_board.specs.MemBoard.{state_of};
 ghost use Rattle.boot_rules.specs.Tables.{table_in};
-ghost use Rattle.slot_caveats.specs.TableCaveats.{is_same_table};
 ghost use Rattle.check_images.specs.Comparing.{is_same_found};
 
 use boot_rules::{Found, find_table};
-use part_table::Table;
 use pico_board::{Board, MemBoard, SECTOR};
 
 /// The rows of an OTP.
@@ -63,23 +61,12 @@ pub fn has_other_rows(start: &MemBoard, end: &MemBoard) -> bool
     false
 }
 
-/// Whether two tables are the same.
-fn is_same_table(one: &Table, two: &Table) -> bool
-    ensures { result ≡ is_same_table one.now two.now }
-{
-    one == two
-}
-
 /// Whether it is one table in one slot, or none in both.
 pub fn is_same_found(one: Option<&Found>, two: Option<&Found>) -> bool
     ensures { result ≡ is_same_found (option_map (λ found. found.now) one.entry)
         (option_map (λ found. found.now) two.entry) }
 {
-    match (one, two) {
-        (Some(one), Some(two)) => one.slot == two.slot && is_same_table(&one.table, &two.table),
-        (None, None) => true,
-        (_, _) => false,
-    }
+    one == two
 }
 
 /// Whether the table differs between two boards, with its slot: another table, the same one in the
