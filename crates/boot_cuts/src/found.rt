@@ -167,8 +167,7 @@ pub fn cuts_on(
     ensures { IfOk result (AreCutsFound (state_of board).content cpu
         (script_events script.now.bytes.now) pattern.now) }
 {
-    let copy = copy_of(alloc, &board)?;
-    match trace_on(alloc, copy, cpu, script)? {
+    match trace_on(alloc, &board, cpu, script)? {
         Some(trace) => Ok(Some(cuts_of(alloc, board, cpu, &trace, pattern)?)),
         None => Ok(None),
     }

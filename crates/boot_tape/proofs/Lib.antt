@@ -1,5 +1,6 @@
 mod PoolLemmas
 mod DoerLemmas
+pub mod MovingLemmas
 pub mod TraceLemmas
 pub mod NoteLemmas
 pub mod PlayLemmas

@@ -11,6 +11,7 @@ use Rattle.pico_board.specs.declared.Step.{Step}
 use Rattle.pico_board.specs.declared.boot.Cpu.{Cpu}
 use Rattle.pico_board.specs.Content.{Content}
 use Rattle.pico_board.specs.Cuts.{Cut, CutOutcome, cut_steps, cut_with}
+use Rattle.pico_board.specs.Board.{State as BoardState, with_power}
 use Rattle.pico_board.specs.MemBoard.{state_of}
 use Rattle.pico_board.specs.Histories.{Extends}
 use Rattle.pico_board.specs.Steps.{IsStepIn, after, after_all}
@@ -27,15 +28,17 @@ use Rattle.boot_machine.proofs.PlayLemmas.{moved-as}
 use Rattle.boot_tape.specs.declared.notes.Came.{Came}
 use Rattle.boot_tape.specs.declared.notes.Behind.TheVariants.{Nothing}
 use Rattle.boot_tape.specs.declared.trace.ArmedCut.{ArmedCut}
+use Rattle.boot_tape.specs.declared.trace.Tape.{Tape}
 use Rattle.boot_tape.specs.declared.trace.Trace.{Trace}
 use Rattle.boot_session.specs.declared.recorder.Recorder.{Recorder}
-use Rattle.boot_session.specs.Standing.{IsUnarmed}
+use Rattle.boot_sweep.specs.declared.moves.Move.{Move}
 use Rattle.boot_tape.specs.Moving.{AreMovesIn, after_moves, done_count, MoveView, move_from, moves_from, traced_by}
-use Rattle.boot_tape.specs.Playing.{CutMoves, HasCome, HasFollowed, HasPattern, IsFollowed, IsLeftBy, IsLong, IsPlay, IsPlayedTo, IsReady, IsStepped, IsTraceOf, bare, cut_from, cut_in, cut_moves, told_of, recorded_state, with_cut, with_notes}
+use Rattle.boot_tape.specs.Playing.{CutMoves, HasCome, HasFollowed, HasPattern, IsFollowed, IsLeftBy, IsLong, IsPlay, IsPlayedTo, IsStepped, IsTapeIn, IsTraceOf, bare, cut_from, cut_in, cut_moves, told_of, recorded_state, with_cut, with_notes}
 use Rattle.boot_tape.specs.Traces.{Traced, behind, came_of, completed, event_moves, event_steps, moves_in, note_of, noted, outcome_before, own_steps, served_in, step_numbers, traced, traced_from}
 use Rattle.boot_session.specs.Recordings.{HasRecorded, IsHistoryOf, IsRecordOf, first_steps, mark}
 use Rattle.boot_tape.specs.Examples.{noting}
 use Rattle.boot_tape.proofs.NoteLemmas.{note-armed, note-is}
+use Rattle.boot_tape.proofs.MovingLemmas.{length-after_moves}
 use Rattle.boot_tape.proofs.TraceLemmas.{after-append, completed-more, count-append, count-traced, cut-steps, first-all, first-moves, length-traced, prefix-lost, traced-append, traced-steps, whole-is}
 
 -- what an event does is the same with no cut armed
@@ -95,7 +98,7 @@ pub record IsDoneBy (om nm : Parts (Recorder MemBoard)) (mid : MachineView) (e :
   pub kept : nm.board.steps.items ≡ first_steps (om.board.steps.items ++ e.steps)
   pub record_ : IsRecordOf state_of nm.board (om.board.steps.items ++ e.steps)
 
-pub done-by : (om nm : Parts (Recorder MemBoard)) (ot : Trace) (mid : MachineView) (event : EventView) (came : Came)
+pub done-by : (om nm : Parts (Recorder MemBoard)) (ot : Tape) (mid : MachineView) (event : EventView) (came : Came)
     → cut_in event ≡ None → IsFollowed om ot mid → ot.done ≤ 262144
     → ((n : MachineView) → Stands recorded_state om n → armed_for n.armed event ≡ Some None
     → HasCome om n event came nm)
@@ -119,7 +122,7 @@ pub record IsToldBy (om : Parts (Recorder MemBoard)) (mid : MachineView) (event 
   pub own : came.own
       ≡ length (first_steps (om.board.steps.items ++ own_steps mid event)) - length om.board.steps.items
 
-pub told-by : (om nm : Parts (Recorder MemBoard)) (ot : Trace) (mid : MachineView) (event : EventView) (came : Came)
+pub told-by : (om nm : Parts (Recorder MemBoard)) (ot : Tape) (mid : MachineView) (event : EventView) (came : Came)
     → cut_in event ≡ None → IsFollowed om ot mid → ot.done ≤ 262144
     → ((n : MachineView) → Stands recorded_state om n → armed_for n.armed event ≡ Some None
     → HasCome om n event came nm)
@@ -174,7 +177,7 @@ same-moves h es fresh cut done true is few whole short c =
     ap (cut_moves cut) (sym (front-all h es fresh done is few (omega (arith, short, count))))
 
 -- where the event's steps are many, so is the trace
-pub long-by : (ot nt : Trace) (m mid : MachineView) (all left : List EventView) (event : EventView)
+pub long-by : (ot nt : Tape) (m mid : MachineView) (all left : List EventView) (event : EventView)
     (number : ℕ) (fresh : List Step) (whole : Bool) (h : List Step)
     → IsPlayedTo ot m all (event ∷ left) number mid → cut_in event ≡ None
     → IsFront h (effect mid event).steps fresh
@@ -202,7 +205,7 @@ long-by ot nt m mid all left event number fresh whole h to uncut front is many =
     let done = is.done in omega (arith, sum, before, now, more, count, done, many)
 
 -- the trace is that of one event more
-pub played-more : (ot nt u : Trace) (m mid : MachineView) (all left : List EventView) (event : EventView) (number : ℕ)
+pub played-more : (ot nt u : Tape) (m mid : MachineView) (all left : List EventView) (event : EventView) (number : ℕ)
     (w : CutMoves) (whole : Bool) → IsPlayedTo ot m all (event ∷ left) number mid → cut_in event ≡ None
     → w ≡ cut_moves (told_of ot) (effect mid event).steps → IsLeftBy ot w number whole nt
     → u.notes.items ≡ ot.notes.items ++ note_of mid event ∷ []
@@ -215,7 +218,7 @@ played-more ot nt u m mid all left event number w whole to uncut w_is is more =
     moved-by mid cut event to.told uncut ∙ ap (λ x. moved_as mid e (outcome_by mid.content x)) (sym w_is) in
     let next = (moved_as mid e (outcome_by mid.content w)).next in
     let past = moves_from ot.moves.items in
-    let here : after_moves m.content past ≡ mid.content = sym (to.content ∙ to.moved) in
+    let here : after_moves m.content past ≡ mid.content = sym to.content in
     let steps : traced_by mid.content w.moves ≡ traced_from mid.content (event_steps mid event) =
     ap (λ (x : CutMoves). traced_by mid.content x.moves) w_is
     ∙ (traced-steps e.steps cut mid.content
@@ -240,9 +243,8 @@ played-more ot nt u m mid all left event number w whole to uncut w_is is more =
           ∙ (ap (λ (x : Moved). ot.notes.items ++ (note_of mid event ∷ noted x.next left)) (sym moved) ∙ to.notes));
       told = ap (λ a. Some a) (sym is.armed);
       cpu = to.cpu;
-      content = ap (λ c. after_moves c w.moves) to.content ∙ sym is.content;
-      moved = is.content ∙ (ap (λ c. after_moves c w.moves) to.moved
-          ∙ (sym (after-append m.content past w.moves) ∙ ap (after_moves m.content) (sym is.moves)));
+      content = ap (λ c. after_moves c w.moves) to.content
+          ∙ (sym (after-append m.content past w.moves) ∙ ap (after_moves m.content) (sym is.moves));
       steps = ap (λ ms. traced_by m.content ms ++ traced next left) is.moves
           ∙ (ap (λ ts. ts ++ traced next left) (traced-append m.content past w.moves)
           ∙ (ap (λ c. (traced_by m.content past ++ traced_by c w.moves) ++ traced next left) here
@@ -255,11 +257,16 @@ played-more ot nt u m mid all left event number w whole to uncut w_is is more =
       counted =
           let d = is.done in let n = to.counted in
           let sum = ap done_count is.moves ∙ count-append past w.moves in omega (arith, d, n, sum);
-      size = is.size ∙ to.size;
     }
 
+-- the flash stays as long as it was
+pub long-as : (tape : Tape) (m mid : MachineView) (all left : List EventView) (k : ℕ)
+    → IsPlayedTo tape m all left k mid → length m.content.flash ≡ length mid.content.flash
+long-as tape m mid all left k to =
+    sym (ap (λ (x : Content). length x.flash) to.content ∙ length-after_moves m.content (moves_from tape.moves.items))
+
 -- how many moves of an event were done
-moved-count : (ot nt : Trace) (w : CutMoves) (number : ℕ) (whole : Bool) (former : ℕ) → IsLeftBy ot w number whole nt
+moved-count : (ot nt : Tape) (w : CutMoves) (number : ℕ) (whole : Bool) (former : ℕ) → IsLeftBy ot w number whole nt
     → former ≡ length ot.moves.items → length nt.moves.items - former ≡ length w.moves
 moved-count ot nt w number whole former is former_is =
     let both = ap (λ (ms : List MoveView). length ms) is.moves in
@@ -268,7 +275,7 @@ moved-count ot nt w number whole former is former_is =
     let sum = length-append (moves_from ot.moves.items) w.moves in omega (arith, both, now, past, sum, former_is)
 
 -- what was noted of the event is its note
-noted-on : (om : Parts (Recorder MemBoard)) (ot nt u : Trace) (mid : MachineView) (event : EventView) (number : ℕ)
+noted-on : (om : Parts (Recorder MemBoard)) (ot nt u : Tape) (mid : MachineView) (event : EventView) (number : ℕ)
     (whole : Bool) (fresh : List Step) (came : Came) (former : ℕ) → IsFollowed om ot mid
     → ot.done ≤ 262144 → mid.armed ≡ Some (told_of ot) → cut_in event ≡ None → IsToldBy om mid event came
     → IsFront om.board.steps.items (effect mid event).steps fresh
@@ -295,7 +302,7 @@ noted-on om ot nt u mid event number whole fresh came former followed short told
     (omega (arith, few, short)) (omega (arith, size, long, most)) says.behind_
     (moved-count ot nt w number whole former is former_is) is.whole_))
 
-pub play-on : (om nm : Parts (Recorder MemBoard)) (ot nt u : Trace) (m : MachineView) (all left : List EventView)
+pub play-on : (om nm : Parts (Recorder MemBoard)) (ot nt u : Tape) (m : MachineView) (all left : List EventView)
     (event : EventView) (number : ℕ) (whole : Bool) (fresh : List Step) (came : Came) (former : ℕ)
     → IsPlay om ot m all (event ∷ left) number → cut_in event ≡ None
     → ((n : MachineView) → Stands recorded_state om n → armed_for n.armed event ≡ Some None
@@ -308,7 +315,7 @@ pub play-on : (om nm : Parts (Recorder MemBoard)) (ot nt u : Trace) (m : Machine
     → IsLong u m all × (u.done ≤ 262144 → HasFollowed whole nm u m all left (number + 1))
 play-on om nm ot nt u m all left event number whole fresh came former play uncut stepped fresh_is is short former_is
     noted_as more =
-    subst (λ (t : Trace). IsLong t m all × (t.done ≤ 262144 → HasFollowed whole nm t m all left (number + 1)))
+    subst (λ (t : Tape). IsLong t m all × (t.done ≤ 262144 → HasFollowed whole nm t m all left (number + 1)))
     (sym noted_as)
     (let mid = play.mid in
     let to = play.to in
@@ -356,18 +363,18 @@ play-on om nm ot nt u m all left event number whole fresh came former play uncut
     ))
 
 -- a machine that is made anew
-pub made-anew : (machine : Parts (Recorder MemBoard)) (trace : Trace) (m mid : MachineView) (all left : List EventView)
-    (number : ℕ) (cpu : Cpu) → m.cpu ≡ cpu → IsPlayedTo trace m all left number mid → mid.place ≡ Off
-    → Stands recorded_state machine (powerless (state_of trace.board).content cpu)
-    → HasRecorded machine.board [] → IsPlay machine trace m all left number
-made-anew machine trace m mid all left number cpu is to off stands none = record {
+pub made-anew : (machine : Parts (Recorder MemBoard)) (tape : Tape) (m mid : MachineView) (all left : List EventView)
+    (number : ℕ) → IsPlayedTo tape m all left number mid → mid.place ≡ Off
+    → Stands recorded_state machine (powerless (after_moves m.content (moves_from tape.moves.items)) m.cpu)
+    → HasRecorded machine.board [] → IsPlay machine tape m all left number
+made-anew machine tape m mid all left number to off stands none = record {
   mid = mid;
   to = to;
   followed = record {
     stands = record {
       content = to.content ∙ stands.content;
       armed = stands.armed;
-      cpu = to.cpu ∙ (is ∙ stands.cpu);
+      cpu = to.cpu ∙ stands.cpu;
       place = subst (λ p. StandsAt machine p) (sym off) stands.place;
     };
     few =
@@ -378,24 +385,24 @@ made-anew machine trace m mid all left number cpu is to off stands none = record
 }
 
 -- before the first event
-pub play-first : (machine : Parts (Recorder MemBoard)) (trace : Trace) (c : Content) (cpu : Cpu)
-    (events : List EventView) → (state_of trace.board).content ≡ c → trace.moves.items ≡ [] → trace.numbers.items ≡ []
-    → trace.done ≡ 0 → trace.armed ≡ None → trace.notes.items ≡ [] → Stands recorded_state machine (powerless c cpu)
-    → HasRecorded machine.board [] → IsPlay machine trace (powerless c cpu) events events 0
-play-first machine trace c cpu events board moves numbers done armed notes stands none =
-    made-anew machine trace (powerless c cpu) (powerless c cpu) events events 0 cpu refl (record {
+pub play-first : (machine : Parts (Recorder MemBoard)) (tape : Tape) (moves : List Move) (c : Content) (cpu : Cpu)
+    (events : List EventView) → moves ≡ tape.moves.items → tape.moves.items ≡ [] → tape.numbers.items ≡ []
+    → tape.done ≡ 0 → tape.armed ≡ None → tape.notes.items ≡ []
+    → Stands recorded_state machine (powerless (after_moves c (moves_from moves)) cpu)
+    → HasRecorded machine.board [] → IsPlay machine tape (powerless c cpu) events events 0
+play-first machine tape moves c cpu events same none_yet numbers done armed notes stands none =
+    made-anew machine tape (powerless c cpu) (powerless c cpu) events events 0 (record {
       numbers = ap (λ ns. ns ++ step_numbers 0 (powerless c cpu) events) numbers;
-      moves = ap (λ ms. moves_from ms ++ moves_in (powerless c cpu) events) moves;
+      moves = ap (λ ms. moves_from ms ++ moves_in (powerless c cpu) events) none_yet;
       notes = ap (λ ns. ns ++ noted (powerless c cpu) events) notes;
       told = ap (λ a. Some (option_map cut_from a)) (sym armed);
       cpu = refl;
-      content = sym board;
-      moved = board ∙ ap (λ ms. after_moves c (moves_from ms)) (sym moves);
-      steps = ap (λ ms. traced_by c (moves_from ms) ++ traced (powerless c cpu) events) moves;
+      content = ap (λ ms. after_moves c (moves_from ms)) (sym none_yet);
+      steps = ap (λ ms. traced_by c (moves_from ms) ++ traced (powerless c cpu) events) none_yet;
       last = refl;
-      counted = done ∙ ap (λ ms. done_count (moves_from ms)) (sym moves);
-      size = ap (λ (x : Content). length x.flash) board;
-    }) refl (subst (λ x. Stands recorded_state machine (powerless x cpu)) (sym board) stands) none
+      counted = done ∙ ap (λ ms. done_count (moves_from ms)) (sym none_yet);
+    }) refl
+    (subst (λ ms. Stands recorded_state machine (powerless (after_moves c (moves_from ms)) cpu)) same stands) none
 
 take-nothing : {X : Type 0} (n : ℕ) → (let none : List X = [] in take n none ≡ none)
 take-nothing zero = refl
@@ -406,7 +413,7 @@ completed-none None = refl
 completed-none (Some cut) = take-nothing cut.left
 
 -- an event that arms a cut
-pub play-armed : (machine : Parts (Recorder MemBoard)) (old new : Trace) (m : MachineView) (all left : List EventView)
+pub play-armed : (machine : Parts (Recorder MemBoard)) (old new : Tape) (m : MachineView) (all left : List EventView)
     (event : EventView) (number : ℕ) (cut : ArmedCut) → cut_in event ≡ Some (cut_from cut)
     → new ≡ with_notes (with_cut old cut) new
     → new.notes.items ≡ old.notes.items ++ noting event_outcomes.CutArmed 0 Nothing 0 true ∷ []
@@ -426,7 +433,7 @@ play-armed machine old new m all left (EventView.Cut n within pattern) number cu
     ap (λ (x : Moved). x.next) (moved-as mid event (Some (cut_from cut))
     (ap (option_map (λ former. Some (cut_with n within pattern))) to.told ∙ ap (λ a. Some a) armed)) in
     let none : event_steps mid event ≡ [] = completed-none (told_cut (armed_for mid.armed event)) in
-    subst (λ (t : Trace). IsPlay machine t m all left (number + 1)) (sym same) (record {
+    subst (λ (t : Tape). IsPlay machine t m all left (number + 1)) (sym same) (record {
       mid = next;
       to = record {
         numbers = ap (λ x. old.numbers.items ++ step_numbers (number + 1) x left) (sym moved)
@@ -440,13 +447,11 @@ play-armed machine old new m all left (EventView.Cut n within pattern) number cu
         told = refl;
         cpu = to.cpu;
         content = to.content;
-        moved = to.moved;
         steps = ap (λ x. traced_by m.content (moves_from old.moves.items) ++ traced x left) (sym moved)
             ∙ (ap (λ (xs : List Step). traced_by m.content (moves_from old.moves.items)
             ++ (traced_from mid.content xs ++ traced (moved_machine mid event).next left)) (sym none) ∙ to.steps);
         last = ap (λ x. (played x left).last.content) (sym moved) ∙ to.last;
         counted = to.counted;
-        size = to.size;
       };
       followed = record {
         stands = play.followed.stands;
@@ -513,34 +518,58 @@ stepped-by old m event new outcome none is says =
       recorded = records-more old.board new.board (effect m event).steps (is.recorded kept);
     }
 
--- the whole trace of a script
-pub traced-end : (machine : Parts (Recorder MemBoard)) (trace_ : Trace) (c : Content) (cpu : Cpu)
-    (events left : List EventView) (number : ℕ) → left ≡ [] → IsReady trace_ → trace_.done ≤ 262144
-    → IsPlay machine trace_ (powerless c cpu) events left number → IsTraceOf c cpu events trace_
-traced-end machine trace_ c cpu events left number none ready short play =
+-- the trace has what the tape tells, and this board
+pub record IsEnded (tape : Tape) (board : MemBoard) (found : Trace) : Type 0 where
+  pub board_ : found.board ≡ board
+  pub moves : found.moves ≡ tape.moves
+  pub numbers : found.numbers ≡ tape.numbers
+  pub notes : found.notes ≡ tape.notes
+
+-- the whole trace of a script, on the board of the machine
+pub traced-end : (machine : Parts (Recorder MemBoard)) (tape : Tape) (board : MemBoard) (found : Trace) (c : Content)
+    (cpu : Cpu) (events left : List EventView) (number : ℕ) → left ≡ [] → IsTapeIn (length c.flash) tape
+    → tape.done ≤ 262144 → IsPlay machine tape (powerless c cpu) events left number
+    → state_of board ≡ with_power (recorded_state machine.board) → IsEnded tape board found
+    → IsTraceOf c cpu events found
+traced-end machine tape board found c cpu events left number none ready short play on ended =
     let mid = play.mid in
     let to = play.to in
-    let steps : traced_by c (moves_from trace_.moves.items) ≡ traced (powerless c cpu) events =
-    sym (append-nil (traced_by c (moves_from trace_.moves.items)))
-    ∙ (ap (λ es. traced_by c (moves_from trace_.moves.items) ++ traced mid es) (sym none) ∙ to.steps) in
-    let count : trace_.done ≡ length (traced (powerless c cpu) events) =
-    to.counted ∙ (count-traced c (moves_from trace_.moves.items) ∙ ap (λ (ts : List Traced). length ts) steps) in record {
-      ready = ready;
-      steps = steps;
-      numbers = sym (append-nil trace_.numbers.items)
-          ∙ (ap (λ es. trace_.numbers.items ++ step_numbers number mid es) (sym none) ∙ to.numbers);
-      moves = sym (append-nil (moves_from trace_.moves.items))
-          ∙ (ap (λ es. moves_from trace_.moves.items ++ moves_in mid es) (sym none) ∙ to.moves);
-      notes = sym (append-nil trace_.notes.items)
-          ∙ (ap (λ es. trace_.notes.items ++ noted mid es) (sym none) ∙ to.notes);
-      content = sym to.content ∙ (ap (λ es. (played mid es).last.content) (sym none) ∙ to.last);
-      moved = to.moved;
+    let past = moves_from tape.moves.items in
+    let same : moves_from found.moves.items ≡ past = ap (λ ms. moves_from ms.items) ended.moves in
+    let held : (state_of found.board).content ≡ mid.content =
+    ap (λ b. (state_of b).content) ended.board_
+    ∙ (ap (λ (s : BoardState). s.content) on ∙ sym play.followed.stands.content) in
+    let moved : (state_of found.board).content ≡ after_moves c (moves_from found.moves.items) =
+    held ∙ (to.content ∙ ap (after_moves c) (sym same)) in
+    let size : length (state_of found.board).content.flash ≡ length c.flash =
+    ap (λ (x : Content). length x.flash) moved ∙ length-after_moves c (moves_from found.moves.items) in
+    let steps : traced_by c past ≡ traced (powerless c cpu) events =
+    sym (append-nil (traced_by c past)) ∙ (ap (λ es. traced_by c past ++ traced mid es) (sym none) ∙ to.steps) in
+    let count : tape.done ≡ length (traced (powerless c cpu) events) =
+    to.counted ∙ (count-traced c past ∙ ap (λ (ts : List Traced). length ts) steps) in record {
+      ready = record {
+        unarmed = record {
+          power = ap (λ b. (state_of b).powered) ended.board_ ∙ ap (λ (s : BoardState). s.powered) on;
+          unarmed = ap (λ b. (state_of b).armed) ended.board_
+              ∙ (ap (λ (s : BoardState). s.armed) on ∙ sym play.followed.stands.armed);
+        };
+        inside = subst (λ n. AreMovesIn n found.moves.items) (sym size)
+            (subst (λ ms. AreMovesIn (length c.flash) ms) (ap (λ ms. ms.items) (sym ended.moves)) ready.inside);
+      };
+      steps = ap (traced_by c) same ∙ steps;
+      numbers = ap (λ ns. ns.items) ended.numbers ∙ (sym (append-nil tape.numbers.items)
+          ∙ (ap (λ es. tape.numbers.items ++ step_numbers number mid es) (sym none) ∙ to.numbers));
+      moves = same ∙ (sym (append-nil past) ∙ (ap (λ es. past ++ moves_in mid es) (sym none) ∙ to.moves));
+      notes = ap (λ ns. ns.items) ended.notes ∙ (sym (append-nil tape.notes.items)
+          ∙ (ap (λ es. tape.notes.items ++ noted mid es) (sym none) ∙ to.notes));
+      content = held ∙ (ap (λ es. (played mid es).last.content) (sym none) ∙ to.last);
+      moved = moved;
       short = omega (arith, count, short);
-      size = to.size;
+      size = size;
     }
 
 -- what was traced of an event is more than before
-pub former-within : (om nm : Parts (Recorder MemBoard)) (mid : MachineView) (e : Effect) (ot : Trace)
+pub former-within : (om nm : Parts (Recorder MemBoard)) (mid : MachineView) (e : Effect) (ot : Tape)
     → IsFollowed om ot mid → ot.done ≤ 262144 → IsDoneBy om nm mid e
     → length om.board.steps.items ≤ length nm.board.steps.items
 unfolding first_steps
@@ -576,23 +605,24 @@ if-ok (Ok a) P Q f h = f a h
 if-ok (Err e) P Q f h = tt
 
 -- an event that was followed
-pub follow-whole : (nm : Parts (Recorder MemBoard)) (nt : Trace) (m : MachineView) (all left : List EventView)
+pub follow-whole : (nm : Parts (Recorder MemBoard)) (nt : Tape) (m : MachineView) (all left : List EventView)
     (number : ℕ) (whole : Bool) → whole ≡ true → HasFollowed whole nm nt m all left number
     → IsPlay nm nt m all left number
 follow-whole nm nt m all left number whole held is = record { mid = is.mid; to = is.to; followed = is.goes held }
 
-pub follow-anew : (nm machine : Parts (Recorder MemBoard)) (nt : Trace) (m : MachineView) (all left : List EventView)
-    (number : ℕ) (whole : Bool) (cpu : Cpu) → whole ≡ false → m.cpu ≡ cpu
-    → HasFollowed whole nm nt m all left number → Stands recorded_state machine (powerless (state_of nt.board).content cpu)
+pub follow-anew : (nm machine : Parts (Recorder MemBoard)) (nt : Tape) (moves : List Move) (m : MachineView)
+    (all left : List EventView) (number : ℕ) (whole : Bool) → whole ≡ false → moves ≡ nt.moves.items
+    → HasFollowed whole nm nt m all left number
+    → Stands recorded_state machine (powerless (after_moves m.content (moves_from moves)) m.cpu)
     → HasRecorded machine.board [] → IsPlay machine nt m all left number
-follow-anew nm machine nt m all left number whole cpu fell is has stands none =
-    made-anew machine nt m has.mid all left number cpu is has.to (has.stops fell) stands none
+follow-anew nm machine nt moves m all left number whole fell same has stands none =
+    made-anew machine nt m has.mid all left number has.to (has.stops fell)
+    (subst (λ ms. Stands recorded_state machine (powerless (after_moves m.content (moves_from ms)) m.cpu)) same stands)
+    none
 
--- a trace that has not begun
-pub begins-ready : (trace_ : Trace) (board : MemBoard) → IsUnarmed (state_of board) → trace_.board ≡ board
-    → trace_.moves.items ≡ [] → trace_.armed ≡ None → IsReady trace_
-begins-ready trace_ board ready is none unarmed = record {
-  unarmed = subst (λ b. IsUnarmed (state_of b)) (sym is) ready;
+-- a tape that has not begun
+pub begins-in : (n : ℕ) (tape : Tape) → tape.moves.items ≡ [] → tape.armed ≡ None → IsTapeIn n tape
+begins-in n tape none unarmed = record {
   pattern = subst (λ a. HasPattern (option_map cut_from a)) (sym unarmed) tt;
-  inside = subst (λ ms. AreMovesIn (length (state_of trace_.board).content.flash) ms) (sym none) tt;
+  inside = subst (λ ms. AreMovesIn n ms) (sym none) tt;
 }

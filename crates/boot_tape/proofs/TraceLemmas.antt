@@ -9,9 +9,8 @@ use Rattle.pico_board.specs.declared.Step.{Step}
 use Rattle.pico_board.specs.Content.{Content}
 use Rattle.pico_board.specs.Cuts.{Cut, cut_by, cut_steps, cut_with, nearer, unless_cut}
 use Rattle.pico_board.specs.Steps.{after, after_all}
-use Rattle.pico_board.specs.MemBoard.{state_of}
 use Rattle.boot_session.proofs.PlanStepLemmas.{all-append}
-use Rattle.boot_tape.specs.declared.trace.Trace.{Trace}
+use Rattle.boot_tape.specs.declared.trace.Tape.{Tape}
 use Rattle.boot_tape.specs.declared.trace.ArmedCut.{ArmedCut}
 use Rattle.boot_sweep.specs.declared.moves.Move.{Move}
 use Rattle.boot_tape.specs.Moving.{AreMovesIn, IsMoveIn, MoveView, Done, Torn, move_from, after_move, after_moves, done_count, moves_from, traced_by}
@@ -70,7 +69,7 @@ count-traced c (Done step ∷ xs) = let rest = count-traced (after c step) xs in
 count-traced c (Torn step within pattern ∷ xs) = count-traced (cut_by (cut_with 0 within pattern) c step) xs
 
 -- one step
-pub taken-none : (old new : Trace) (step : Step) (number : ℕ) → told_of old ≡ None
+pub taken-none : (old new : Tape) (step : Step) (number : ℕ) → told_of old ≡ None
     → HasCompleted old step number new → IsLeftBy old (cut_moves (told_of old) (step ∷ [])) number true new
 taken-none old new step number none is =
     subst (λ cut. IsLeftBy old (cut_moves cut (step ∷ [])) number true new) (sym none) (record {
@@ -78,9 +77,7 @@ taken-none old new step number none is =
       moves = is.moves;
       whole_ = refl;
       armed = ap (option_map cut_from) is.armed ∙ none;
-      content = is.content;
       done = let n = is.done in omega (arith, n);
-      size = is.size;
       notes = is.notes;
     })
 
@@ -96,13 +93,13 @@ one-by cut step b is =
     ap (λ (t : Bool). if t then record { moves = Torn step cut.within cut.pattern ∷ []; whole = false; armed = None }
     else record { moves = Done step ∷ []; whole = true; armed = Some (nearer cut) }) is
 
-pub taken-some : (old mid new : Trace) (step : Step) (number : ℕ) (cut : Cut) (next : ArmedCut)
+pub taken-some : (old mid new : Tape) (step : Step) (number : ℕ) (cut : Cut) (next : ArmedCut)
     → told_of old ≡ Some cut
     → Some (cut_from next) ≡ (if cut.left == 0 then None else Some (nearer cut))
-    → mid.board ≡ old.board → mid.moves ≡ old.moves → mid.numbers ≡ old.numbers → mid.done ≡ old.done
+    → mid.moves ≡ old.moves → mid.numbers ≡ old.numbers → mid.done ≡ old.done
     → mid.armed ≡ Some next → mid.notes ≡ old.notes → HasCompleted mid step number new
     → IsLeftBy old (cut_moves (told_of old) (step ∷ [])) number true new
-taken-some old mid new step number cut next told near board moves numbers done armed notes is = go (cut.left == 0) refl
+taken-some old mid new step number cut next told near moves numbers done armed notes is = go (cut.left == 0) refl
   where
     go : (b : Bool) → (cut.left == 0) ≡ b → IsLeftBy old (cut_moves (told_of old) (step ∷ [])) number true new
     go true due = let no : Some (cut_from next) ≡ None = near ∙ ap (armed_by cut) due in cc
@@ -114,13 +111,11 @@ taken-some old mid new step number cut next told near board moves numbers done a
           moves = is.moves ∙ ap (λ ms. moves_from ms.items ++ Done step ∷ []) moves;
           whole_ = refl;
           armed = ap (option_map cut_from) (is.armed ∙ armed) ∙ (near ∙ ap (armed_by cut) due);
-          content = is.content ∙ ap (λ b. after (state_of b).content step) board;
           done = let n = is.done in omega (arith, n, done);
-          size = is.size ∙ ap (λ b. length (state_of b).content.flash) board;
           notes = is.notes ∙ notes;
         })
 
-pub taken-lost : (old new : Trace) (step : Step) (number : ℕ) (cut : Cut) → told_of old ≡ Some cut
+pub taken-lost : (old new : Tape) (step : Step) (number : ℕ) (cut : Cut) → told_of old ≡ Some cut
     → None ≡ (if cut.left == 0 then None else Some (nearer cut)) → HasLost old step cut new
     → IsLeftBy old (cut_moves (told_of old) (step ∷ [])) number false new
 taken-lost old new step number cut told near is = go (cut.left == 0) refl
@@ -135,14 +130,12 @@ taken-lost old new step number cut told near is = go (cut.left == 0) refl
           moves = is.moves;
           whole_ = refl;
           armed = ap (option_map cut_from) is.armed;
-          content = is.content;
           done = let n = is.done in omega (arith, n);
-          size = is.size;
           notes = is.notes;
         })
 
 -- more steps
-pub left-then : (old mid new : Trace) (w : CutMoves) (rest : Option Cut → CutMoves) (number : ℕ) (whole : Bool)
+pub left-then : (old mid new : Tape) (w : CutMoves) (rest : Option Cut → CutMoves) (number : ℕ) (whole : Bool)
     → IsLeftBy old w number true mid → IsLeftBy mid (rest (told_of mid)) number whole new
     → IsLeftBy old (then_moves w rest) number whole new
 left-then old mid new w rest number whole first second =
@@ -160,29 +153,24 @@ left-then old mid new w rest number whole first second =
           ∙ append_assoc (moves_from old.moves.items) w.moves r.moves);
       whole_ = next.whole_;
       armed = next.armed;
-      content = next.content ∙ (ap (λ c. after_moves c r.moves) first.content
-          ∙ sym (after-append (state_of old.board).content w.moves r.moves));
       done = let a = first.done in let b = next.done in let n = count-append w.moves r.moves in omega (arith, a, b, n);
-      size = next.size ∙ first.size;
       notes = next.notes ∙ first.notes;
     })
 
-pub left-lost : (old new : Trace) (w : CutMoves) (rest : Option Cut → CutMoves) (number : ℕ)
+pub left-lost : (old new : Tape) (w : CutMoves) (rest : Option Cut → CutMoves) (number : ℕ)
     → IsLeftBy old w number false new → IsLeftBy old (then_moves w rest) number false new
 left-lost old new w rest number is =
     let r = rest w.armed in
     let both : CutMoves = record { moves = w.moves ++ r.moves; whole = r.whole; armed = r.armed } in
     subst (λ x. IsLeftBy old x number false new) (ap (λ b. if b then both else w) is.whole_) is
 
-pub left-none : (old : Trace) (number : ℕ) → IsLeftBy old (cut_moves (told_of old) []) number true old
+pub left-none : (old : Tape) (number : ℕ) → IsLeftBy old (cut_moves (told_of old) []) number true old
 left-none old number = record {
   numbers = sym (append-nil old.numbers.items);
   moves = sym (append-nil (moves_from old.moves.items));
   whole_ = refl;
   armed = refl;
-  content = refl;
   done = omega arith;
-  size = refl;
   notes = refl;
 }
 
@@ -397,7 +385,7 @@ one-count (Some cut) step = go (cut.left == 0)
     go true = omega arith
     go false = omega arith
 
-pub loop-lost : (now next : Trace) (k : ℕ) (other : Step) (steps : List Step) (number : ℕ) (whole : Bool) → k < length steps
+pub loop-lost : (now next : Tape) (k : ℕ) (other : Step) (steps : List Step) (number : ℕ) (whole : Bool) → k < length steps
     → IsLeftBy now (cut_moves (told_of now) (get_or steps k other ∷ [])) number whole next → whole ≡ false
     → IsLeftBy now (cut_moves (told_of now) (drop k steps)) number false next
 loop-lost now next k other steps number whole lt is fell =
@@ -408,7 +396,7 @@ loop-lost now next k other steps number whole lt is fell =
     (left-lost now next (cut_moves (told_of now) (step ∷ [])) (λ a. cut_moves a rest) number
     (subst (λ b. IsLeftBy now (cut_moves (told_of now) (step ∷ [])) number b next) fell is))
 
-pub loop-more : (now next new : Trace) (k : ℕ) (other : Step) (steps : List Step) (number : ℕ) (whole w : Bool) → k < length steps
+pub loop-more : (now next new : Tape) (k : ℕ) (other : Step) (steps : List Step) (number : ℕ) (whole w : Bool) → k < length steps
     → IsLeftBy now (cut_moves (told_of now) (get_or steps k other ∷ [])) number whole next → whole ≡ true
     → IsLeftBy next (cut_moves (told_of next) (drop (k + 1) steps)) number w new
     → IsLeftBy now (cut_moves (told_of now) (drop k steps)) number w new
@@ -420,7 +408,7 @@ loop-more now next new k other steps number whole w lt is held later =
     (left-then now next new (cut_moves (told_of now) (step ∷ [])) (λ a. cut_moves a rest) number w
     (subst (λ b. IsLeftBy now (cut_moves (told_of now) (step ∷ [])) number b next) held is) later)
 
-pub one-done : (now next : Trace) (step : Step) (number : ℕ) (whole : Bool)
+pub one-done : (now next : Tape) (step : Step) (number : ℕ) (whole : Bool)
     → IsLeftBy now (cut_moves (told_of now) (step ∷ [])) number whole next → next.done ≤ now.done + 1
 one-done now next step number whole is =
     let most = one-count (told_of now) step in let done = is.done in omega (arith, most, done)

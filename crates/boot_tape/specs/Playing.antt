@@ -5,7 +5,7 @@ use Rattle.pico_board.specs.MemBoard.{state_of}
 use Rattle.pico_board.specs.Histories.{Extends}
 use Rattle.pico_board.specs.Content.{Content}
 use Rattle.pico_board.specs.declared.boot.Cpu.{Cpu}
-use Rattle.pico_board.specs.Steps.{after, after_all}
+use Rattle.pico_board.specs.Steps.{after_all}
 use Rattle.boot_script.specs.Events.{EventView}
 use Rattle.boot_session.specs.Standing.{IsUnarmed}
 use Rattle.boot_machine.specs.declared.parts.Parts.{Parts}
@@ -21,6 +21,7 @@ use Rattle.boot_tape.specs.declared.notes.Behind.{Behind}
 use Rattle.boot_tape.specs.declared.notes.Behind.TheVariants as behinds
 use Rattle.boot_machine.specs.Standing.{Stands}
 use Rattle.boot_machine.specs.Plays.{played}
+use Rattle.boot_tape.specs.declared.trace.Tape.{Tape}
 use Rattle.boot_tape.specs.declared.trace.Trace.{Trace}
 use Rattle.boot_session.specs.declared.recorder.Recorder.{Recorder}
 use Rattle.boot_session.specs.Recordings.{IsRecordOf, first_steps}
@@ -28,7 +29,7 @@ use Rattle.boot_tape.specs.Traces.{behind, came_of, moves_in, noted, own_steps, 
 pub use Rattle.boot_tape.specs.CutMoves.{CutMoves, cut_moves, move_first}
 use Rattle.pico_board.specs.Board.{State as BoardState}
 use Rattle.pico_board.specs.declared.Step.{Step}
-use Rattle.pico_board.specs.Cuts.{Cut, IsPattern, cut_by, cut_with}
+use Rattle.pico_board.specs.Cuts.{Cut, IsPattern, cut_with}
 use Rattle.boot_tape.specs.declared.notes.Came.{Came}
 use Rattle.boot_tape.specs.declared.trace.ArmedCut.{ArmedCut}
 use Rattle.boot_tape.specs.Moving.{AreMovesIn, Done, Torn, after_moves, done_count, moves_from, traced_by}
@@ -38,106 +39,96 @@ abbrev pub cut_from : ArmedCut → Cut
 cut_from cut = record { left = cut.left; within = cut.within; pattern = cut.pattern.now }
 
 -- the cut that the script has armed
-abbrev pub told_of : Trace → Option Cut
-told_of trace = option_map cut_from trace.armed
+abbrev pub told_of : Tape → Option Cut
+told_of tape = option_map cut_from tape.armed
 
 -- its pattern is as a bench asks
 abbrev pub HasPattern : Option Cut → Type 0
 HasPattern None = ⊤
 HasPattern (Some cut) = IsPattern cut.within cut.pattern
 
--- the trace with another armed cut
-abbrev pub with_cut : Trace → ArmedCut → Trace
-with_cut trace cut = record {
-  board = trace.board;
-  moves = trace.moves;
-  numbers = trace.numbers;
-  done = trace.done;
+-- the tape with another armed cut
+abbrev pub with_cut : Tape → ArmedCut → Tape
+with_cut tape cut = record {
+  moves = tape.moves;
+  numbers = tape.numbers;
+  done = tape.done;
   armed = Some cut;
-  notes = trace.notes;
+  notes = tape.notes;
 }
 
--- the trace with the notes of another one
-abbrev pub with_notes : Trace → Trace → Trace
-with_notes trace other = record {
-  board = trace.board;
-  moves = trace.moves;
-  numbers = trace.numbers;
-  done = trace.done;
-  armed = trace.armed;
+-- the tape with the notes of another one
+abbrev pub with_notes : Tape → Tape → Tape
+with_notes tape other = record {
+  moves = tape.moves;
+  numbers = tape.numbers;
+  done = tape.done;
+  armed = tape.armed;
   notes = other.notes;
 }
+
+-- what was done lies in a flash of n bytes, and the pattern of the script's cut is as a bench asks
+pub record IsTapeIn (n : ℕ) (tape : Tape) : Type 0 where
+  pub pattern : HasPattern (told_of tape)
+  pub inside : AreMovesIn n tape.moves.items
 
 abbrev pub flash_long : Trace → ℕ
 flash_long trace = length (state_of trace.board).content.flash
 
--- the board has power and no armed cut, and what was done lies in its flash. The pattern of the
--- script's cut is as a bench asks.
+-- the board has power and no armed cut, and what was done lies in its flash
 pub record IsReady (trace : Trace) : Type 0 where
   pub unarmed : IsUnarmed (state_of trace.board)
-  pub pattern : HasPattern (told_of trace)
   pub inside : AreMovesIn (flash_long trace) trace.moves.items
 
 -- a step of the event of this number completed; the cut that is armed stays
-pub record HasCompleted (old : Trace) (step : Step) (number : ℕ) (new : Trace) : Type 0 where
+pub record HasCompleted (old : Tape) (step : Step) (number : ℕ) (new : Tape) : Type 0 where
   pub numbers : new.numbers.items ≡ old.numbers.items ++ number ∷ []
   pub moves : moves_from new.moves.items ≡ moves_from old.moves.items ++ Done step ∷ []
   pub armed : new.armed ≡ old.armed
-  pub content : (state_of new.board).content ≡ after (state_of old.board).content step
   pub done : new.done ≡ old.done + 1
-  pub size : flash_long new ≡ flash_long old
   pub notes : new.notes ≡ old.notes
 
 -- the armed cut cut the step
-pub record HasLost (old : Trace) (step : Step) (cut : Cut) (new : Trace) : Type 0 where
+pub record HasLost (old : Tape) (step : Step) (cut : Cut) (new : Tape) : Type 0 where
   pub numbers : new.numbers.items ≡ old.numbers.items
   pub moves : moves_from new.moves.items
       ≡ moves_from old.moves.items ++ Torn step cut.within cut.pattern ∷ []
   pub armed : new.armed ≡ None
-  pub content : (state_of new.board).content
-      ≡ cut_by (cut_with 0 cut.within cut.pattern) (state_of old.board).content step
   pub done : new.done ≡ old.done
-  pub size : flash_long new ≡ flash_long old
   pub notes : new.notes ≡ old.notes
 
--- the trace has these moves of the event of this number more, and the board is as they leave it
-pub record IsLeftBy (old : Trace) (w : CutMoves) (number : ℕ) (whole : Bool) (new : Trace)
+-- the tape has these moves of the event of this number more
+pub record IsLeftBy (old : Tape) (w : CutMoves) (number : ℕ) (whole : Bool) (new : Tape)
     : Type 0 where
   pub numbers : new.numbers.items ≡ old.numbers.items ++ replicate (done_count w.moves) number
   pub moves : moves_from new.moves.items ≡ moves_from old.moves.items ++ w.moves
   pub whole_ : whole ≡ w.whole
   pub armed : told_of new ≡ w.armed
-  pub content : (state_of new.board).content
-      ≡ after_moves (state_of old.board).content w.moves
   pub done : new.done ≡ old.done + done_count w.moves
-  pub size : flash_long new ≡ flash_long old
   pub notes : new.notes ≡ old.notes
 
 -- the steps were done up to the one that the armed cut cut
-abbrev pub HasTaken : Trace → List Step → ℕ → Bool → Trace → Type 0
+abbrev pub HasTaken : Tape → List Step → ℕ → Bool → Tape → Type 0
 HasTaken old steps number whole new = IsLeftBy old (cut_moves (told_of old) steps) number whole new
 
 -- the machine with no cut armed
 abbrev pub bare : MachineView → MachineView
 bare m = record { content = m.content; armed = Some None; cpu = m.cpu; place = m.place }
 
--- the trace is that of the events before those that are left, which lead m to mid. The first of
+-- the tape is that of the events before those that are left, which lead m to mid. The first of
 -- these has the number k.
-pub record IsPlayedTo (trace : Trace) (m : MachineView) (all left : List EventView) (k : ℕ)
+pub record IsPlayedTo (tape : Tape) (m : MachineView) (all left : List EventView) (k : ℕ)
     (mid : MachineView) : Type 0 where
-  pub told : mid.armed ≡ Some (told_of trace)
+  pub told : mid.armed ≡ Some (told_of tape)
   pub cpu : mid.cpu ≡ m.cpu
-  pub content : mid.content ≡ (state_of trace.board).content
-  pub moved : (state_of trace.board).content
-      ≡ after_moves m.content (moves_from trace.moves.items)
-  pub steps : traced_by m.content (moves_from trace.moves.items) ++ traced mid left
+  pub content : mid.content ≡ after_moves m.content (moves_from tape.moves.items)
+  pub steps : traced_by m.content (moves_from tape.moves.items) ++ traced mid left
       ≡ traced m all
-  pub numbers : trace.numbers.items ++ step_numbers k mid left ≡ step_numbers 0 m all
-  pub moves : moves_from trace.moves.items ++ moves_in mid left ≡ moves_in m all
-  pub notes : trace.notes.items ++ noted mid left ≡ noted m all
+  pub numbers : tape.numbers.items ++ step_numbers k mid left ≡ step_numbers 0 m all
+  pub moves : moves_from tape.moves.items ++ moves_in mid left ≡ moves_in m all
+  pub notes : tape.notes.items ++ noted mid left ≡ noted m all
   pub last : (played mid left).last.content ≡ (played m all).last.content
-  pub counted : trace.done ≡ done_count (moves_from trace.moves.items)
-  pub size : flash_long trace ≡ length m.content.flash
+  pub counted : tape.done ≡ done_count (moves_from tape.moves.items)
 
 -- the board that a recorder stands round
 abbrev pub recorded_state : Recorder MemBoard → BoardState
@@ -145,31 +136,31 @@ recorded_state recorder = state_of recorder.bench
 
 -- the machine stands for mid but for the cut, and its recorder has kept all steps that its board did,
 -- no more than completed
-pub record IsFollowed (machine : Parts (Recorder MemBoard)) (trace : Trace) (mid : MachineView)
+pub record IsFollowed (machine : Parts (Recorder MemBoard)) (tape : Tape) (mid : MachineView)
     : Type 0 where
   pub stands : Stands recorded_state machine (bare mid)
-  pub few : length machine.board.steps.items ≤ trace.done
+  pub few : length machine.board.steps.items ≤ tape.done
   pub recorded : IsRecordOf state_of machine.board machine.board.steps.items
 
 -- a play on its way
-pub record IsPlay (machine : Parts (Recorder MemBoard)) (trace : Trace) (m : MachineView)
+pub record IsPlay (machine : Parts (Recorder MemBoard)) (tape : Tape) (m : MachineView)
     (all left : List EventView) (k : ℕ) : Type 0 where
   pub mid : MachineView
-  pub to : IsPlayedTo trace m all left k mid
-  pub followed : IsFollowed machine trace mid
+  pub to : IsPlayedTo tape m all left k mid
+  pub followed : IsFollowed machine tape mid
 
--- an event was played, so the trace is that of one event more. The machine stands where all its
+-- an event was played, so the tape is that of one event more. The machine stands where all its
 -- steps completed, and otherwise is off; or too many steps completed.
-pub record HasFollowed (whole : Bool) (machine : Parts (Recorder MemBoard)) (trace : Trace)
+pub record HasFollowed (whole : Bool) (machine : Parts (Recorder MemBoard)) (tape : Tape)
     (m : MachineView) (all left : List EventView) (k : ℕ) : Type 0 where
   pub mid : MachineView
-  pub to : IsPlayedTo trace m all left k mid
-  pub goes : whole ≡ true → IsFollowed machine trace mid
+  pub to : IsPlayedTo tape m all left k mid
+  pub goes : whole ≡ true → IsFollowed machine tape mid
   pub stops : whole ≡ false → mid.place ≡ Off
 
 -- so many steps completed that the whole trace is too long
-abbrev pub IsLong : Trace → MachineView → List EventView → Type 0
-IsLong trace m all = 262144 < trace.done → 262144 < length (traced m all)
+abbrev pub IsLong : Tape → MachineView → List EventView → Type 0
+IsLong tape m all = 262144 < tape.done → 262144 < length (traced m all)
 
 -- the cut that an event arms
 abbrev pub cut_in : EventView → Option Cut

@@ -8,12 +8,14 @@
 mod copying;
 pub mod examples;
 pub mod laws;
+mod moving;
 mod notes;
 mod playing;
 mod trace;
 
 pub use boot_sweep::Move;
 pub use copying::copy_of;
+pub use moving::do_moves;
 pub use notes::{Behind, Doer, Note, doers_of, is_boot};
 pub use playing::trace_on;
 pub use trace::Trace;

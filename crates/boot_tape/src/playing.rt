@@ -1,6 +1,7 @@
 //! The play of a script, which finds what it does to a board.
 
-ghost use Rattle.std.specs.Prelude.{◌≡◌, ◌+◌, ◌≤◌, ◌<◌, ◌∷◌, ◌&&◌, [], true, false, IfOk, OnOk, IsTrue, MatchOption, None, Some, List, option_map};
+ghost use Rattle.std.specs.Prelude.{◌≡◌, ◌+◌, ◌≤◌, ◌<◌, ◌∷◌, ◌&&◌, [], true, false, IfOk, OnOk, IsTrue, MatchOption, None, Some, List, length, option_map};
+ghost use Rattle.pico_board.specs.Board.{with_power};
 ghost use Rattle.pico_board.specs.MemBoard.{state_of};
 ghost use Rattle.boot_script.specs.Events.{EventView, IsWritableEvent, event_from};
 ghost use Rattle.boot_script.specs.Scripts.{script_events};
@@ -12,35 +13,43 @@ ghost use Rattle.boot_machine.specs.Serving.{is_hosted};
 ghost use Rattle.boot_machine.specs.Standing.{Stands, is_bootsel};
 ghost use Rattle.boot_machine.specs.Plays.{powerless};
 ghost use Rattle.boot_tape.specs.Traces.{behind_asked};
-ghost use Rattle.boot_tape.specs.Playing.{HasCome, HasFollowed, IsLong, IsPlay, IsReady, IsStepped, IsTraceOf, IsTracedTooLong, asked_effect, behind_in, cut_from, cut_in, recorded_state};
+ghost use Rattle.boot_tape.specs.Moving.{AreMovesIn, after_moves, moves_from};
+ghost use Rattle.boot_tape.specs.Playing.{HasCome, HasFollowed, IsLong, IsPlay, IsStepped, IsTapeIn, IsTraceOf, IsTracedTooLong, asked_effect, behind_in, cut_from, cut_in, recorded_state};
 
 use crate::copying::copy_of;
+use crate::moving::do_moves;
 use crate::notes::{Behind, Came};
-use crate::trace::{ArmedCut, Trace};
+use crate::trace::{ArmedCut, Tape, Trace};
 use arrayvec::ArrayVec;
 use boot_machine::laws::run::only_lost_power_says_so;
 use boot_machine::{Machine, Served, State};
 use boot_script::{Event, Script};
 use boot_session::{Recorder, STEP_LIMIT};
-use pico_board::{BootKind, Cpu, MemBoard};
+use boot_sweep::Move;
+use pico_board::{Bench, BootKind, Cpu, MemBoard};
 use ram_start::Ram;
 use sector_pool::SectorPool;
 use std::alloc::{AllocError, Global};
 use uf2_place::Download;
 
-/// A machine without power, over a copy of a board. No cut is ever armed on it.
+/// A machine without power, over a copy of a board on which these moves are done. No cut is ever
+/// armed on it.
 fn machine_of(
     alloc: Global,
     board: &MemBoard,
+    moves: &[Move<'_>],
     cpu: Cpu,
 ) -> Result<Machine<Recorder<MemBoard>>, AllocError>
-    requires { IsTrue (state_of board.now).powered }
+    requires power { IsTrue (state_of board.now).powered }
+    requires range { AreMovesIn (length (state_of board.now).content.flash) moves.now }
     ensures stands { IfOk result (λ machine. Stands recorded_state machine
-        (powerless (state_of board.now).content cpu)) }
+        (powerless (after_moves (state_of board.now).content (moves_from moves.now)) cpu)) }
     ensures none { IfOk result (λ machine. HasRecorded machine.board []) }
 {
+    let mut copy = copy_of(alloc, board)?;
+    do_moves(&mut copy, moves);
     let units = ArrayVec::new();
-    let recorder = Recorder::make(alloc, copy_of(alloc, board)?, units)?;
+    let recorder = Recorder::make(alloc, copy, units)?;
     let pool = SectorPool::make(alloc, 2)?;
     let download = Download::make(alloc)?;
     let ram = Ram::make(alloc)?;
@@ -176,85 +185,122 @@ fn step(machine: &mut Machine<Recorder<MemBoard>>, event: &Event<'_>) -> Result<
 /// Plays an event that arms no cut, of this number, and answers whether all its steps complete.
 fn play<'a>(
     machine: &mut Machine<Recorder<MemBoard>>,
-    trace: &mut Trace<'a>,
+    tape: &mut Tape<'a>,
     event: &Event<'a>,
     number: u32,
 ) -> Result<bool, AllocError>
     requires writable { IsWritableEvent (event_from event.now) }
     requires uncut { cut_in (event_from event.now) ≡ None }
-    requires ready { IsReady trace.old }
-    requires short { trace.old.done ≤ 262144 }
+    requires short { tape.old.done ≤ 262144 }
     requires play { (m : MachineView) × (all : List EventView) × (left : List EventView)
-        × IsPlay machine.old trace.old m all left number }
-    ensures ready { OnOk result (IsReady trace.new) }
+        × IsPlay machine.old tape.old m all left number }
+    ensures ready { OnOk result ((m : MachineView) (all left : List EventView)
+        → IsPlay machine.old tape.old m all left number
+        → IsTapeIn (length m.content.flash) tape.old
+        → IsTapeIn (length m.content.flash) tape.new) }
     ensures played { IfOk result (λ whole. (m : MachineView) (all left : List EventView)
-        → IsPlay machine.old trace.old m all (event_from event.now ∷ left) number
-        → IsLong trace.new m all
-        × (trace.new.done ≤ 262144
-        → HasFollowed whole machine.new trace.new m all left (number + 1))) }
+        → IsPlay machine.old tape.old m all (event_from event.now ∷ left) number
+        → IsLong tape.new m all
+        × (tape.new.done ≤ 262144
+        → HasFollowed whole machine.new tape.new m all left (number + 1))) }
 {
     let former = machine.board().steps.as_slice().len();
-    let moved = trace.moves.as_slice().len();
+    let moved = tape.moves.as_slice().len();
     let came = step(machine, event)?;
-    let whole = trace.take_steps(&machine.board().steps[former..], number)?;
-    trace.note(came, moved, whole)?;
+    let whole = tape.take_steps(&machine.board().steps[former..], number)?;
+    tape.note(came, moved, whole)?;
     Ok(whole)
 }
 
-/// Plays an event of this number. The armed cut stands beside the machine. The machine's board does
-/// all steps of the event, so that they are known. A machine whose power the cut loses is made
-/// anew.
+/// The machine made anew, without power, over a copy of the board before the script on which all
+/// its moves are done. The old one is gone before the copy is made.
+fn anew(
+    alloc: Global,
+    start: &MemBoard,
+    machine: Machine<Recorder<MemBoard>>,
+    moves: &[Move<'_>],
+    cpu: Cpu,
+) -> Result<Machine<Recorder<MemBoard>>, AllocError>
+    requires power { IsTrue (state_of start.now).powered }
+    requires range { AreMovesIn (length (state_of start.now).content.flash) moves.now }
+    ensures stands { IfOk result (λ next. Stands recorded_state next
+        (powerless (after_moves (state_of start.now).content (moves_from moves.now)) cpu)) }
+    ensures none { IfOk result (λ next. HasRecorded next.board []) }
+{
+    drop(machine);
+    machine_of(alloc, start, moves, cpu)
+}
+
+/// Plays an event of this number on a machine, and answers the machine that goes on. The armed cut
+/// stands beside the machine, whose board does all steps of the event, so that they are known. A
+/// machine whose power the cut loses is made anew.
 fn follow<'a>(
     alloc: Global,
-    machine: &mut Machine<Recorder<MemBoard>>,
-    trace: &mut Trace<'a>,
+    start: &MemBoard,
+    machine: Machine<Recorder<MemBoard>>,
+    tape: &mut Tape<'a>,
     cpu: Cpu,
     event: &Event<'a>,
     number: u32,
-) -> Result<(), AllocError>
+) -> Result<Machine<Recorder<MemBoard>>, AllocError>
+    requires power { IsTrue (state_of start.now).powered }
     requires writable { IsWritableEvent (event_from event.now) }
-    requires ready { IsReady trace.old }
-    requires short { trace.old.done ≤ 262144 }
-    requires play { (m : MachineView) × (all : List EventView) × (left : List EventView)
-        × IsPlay machine.old trace.old m all left number }
-    ensures ready { OnOk result (IsReady trace.new) }
-    ensures played { OnOk result ((m : MachineView) (all left : List EventView)
-        → m.cpu ≡ cpu → IsPlay machine.old trace.old m all (event_from event.now ∷ left) number
-        → IsLong trace.new m all
-        × (trace.new.done ≤ 262144 → IsPlay machine.new trace.new m all left (number + 1))) }
+    requires ready { IsTapeIn (length (state_of start.now).content.flash) tape.old }
+    requires short { tape.old.done ≤ 262144 }
+    requires play { (all : List EventView) × (left : List EventView)
+        × IsPlay machine tape.old (powerless (state_of start.now).content cpu) all left number }
+    ensures ready { OnOk result (IsTapeIn (length (state_of start.now).content.flash) tape.new) }
+    ensures played { IfOk result (λ next. (all left : List EventView)
+        → IsPlay machine tape.old (powerless (state_of start.now).content cpu) all
+        (event_from event.now ∷ left) number
+        → IsLong tape.new (powerless (state_of start.now).content cpu) all
+        × (tape.new.done ≤ 262144 → IsPlay next tape.new
+        (powerless (state_of start.now).content cpu) all left (number + 1))) }
 {
+    let mut machine = machine;
     if let Some(cut) = armed_by(event) {
-        trace.arm(cut)?;
-        return Ok(());
+        tape.arm(cut)?;
+        return Ok(machine);
     }
-    if !play(machine, trace, event, number)? {
-        *machine = machine_of(alloc, &trace.board, cpu)?;
+    if play(&mut machine, tape, event, number)? {
+        return Ok(machine);
     }
-    Ok(())
+    let next = anew(alloc, start, machine, &tape.moves, cpu)?;
+    Ok(next)
+}
+
+/// The board of a machine, with power.
+fn board_of(machine: Machine<Recorder<MemBoard>>) -> MemBoard
+    ensures { state_of result ≡ with_power (recorded_state machine.board) }
+{
+    let mut board = machine.into_board().bench;
+    board.power_on();
+    board
 }
 
 /// Plays a script on a board, on a machine that starts without power. The answer is what it does
-/// to the board; none where more than 262,144 steps complete.
+/// to the board; none where more than 262,144 steps complete. The content is held at most twice:
+/// by this board and by the machine's, which becomes that of the answer.
 pub fn trace_on<'a>(
     alloc: Global,
-    board: MemBoard,
+    board: &MemBoard,
     cpu: Cpu,
     script: &Script<'a>,
 ) -> Result<Option<Trace<'a>>, AllocError>
-    requires { IsUnarmed (state_of board) }
+    requires { IsUnarmed (state_of board.now) }
     ensures { IfOk result (λ found. MatchOption found
-        (IsTracedTooLong (state_of board).content cpu (script_events script.now.bytes.now))
-        (IsTraceOf (state_of board).content cpu (script_events script.now.bytes.now))) }
+        (IsTracedTooLong (state_of board.now).content cpu (script_events script.now.bytes.now))
+        (IsTraceOf (state_of board.now).content cpu (script_events script.now.bytes.now))) }
 {
-    let mut machine = machine_of(alloc, &board, cpu)?;
-    let mut trace = Trace::begin(alloc, board);
+    let mut tape = Tape::begin(alloc);
+    let mut machine = machine_of(alloc, board, &tape.moves, cpu)?;
     let mut number = 0;
     for event in script.events() {
-        follow(alloc, &mut machine, &mut trace, cpu, &event, number)?;
-        if trace.done > STEP_LIMIT {
+        machine = follow(alloc, board, machine, &mut tape, cpu, &event, number)?;
+        if tape.done > STEP_LIMIT {
             return Ok(None);
         }
         number += 1;
     }
-    Ok(Some(trace))
+    Ok(Some(tape.end(board_of(machine))))
 }

@@ -1,14 +1,14 @@
-//! What a script has done to a board, as it is told step by step.
+//! What a script does to a board, as it is told step by step, and what it has done in the end.
 
-ghost use Rattle.std.specs.Prelude.{◌≡◌, ◌+◌, ◌-◌, ◌^◌, ◌<◌, ◌==◌, ◌∷◌, ◌++◌, All, IfOk, OnOk, if◌then◌else◌, [], false, true, None, Some, length, min, option_map};
+ghost use Rattle.std.specs.Prelude.{◌≡◌, ℕ, ◌+◌, ◌-◌, ◌^◌, ◌<◌, ◌==◌, ◌∷◌, ◌++◌, All, IfOk, OnOk, if◌then◌else◌, [], false, true, None, Some, length, min, option_map};
 ghost use Rattle.pico_board.specs.Cuts.{nearer as one_nearer};
 ghost use Rattle.pico_board.specs.Steps.{IsStepIn};
-ghost use Rattle.boot_tape.specs.Playing.{HasCompleted, HasLost, HasPattern, HasTaken, IsReady, cut_from, flash_long, told_of, with_cut, with_notes};
+ghost use Rattle.boot_tape.specs.Playing.{HasCompleted, HasLost, HasPattern, HasTaken, IsTapeIn, cut_from, told_of, with_cut, with_notes};
 ghost use Rattle.boot_tape.specs.declared.notes.Behind.TheVariants.{Nothing};
 ghost use Rattle.text_lines.specs.declared.outcome.EventOutcome.TheVariants.{CutArmed};
 
 use crate::notes::{Behind, Came, Note};
-use boot_sweep::{Move, complete, cut};
+use boot_sweep::Move;
 use pico_board::{MemBoard, Step};
 use std::alloc::{AllocError, Global};
 use text_lines::EventOutcome;
@@ -35,7 +35,20 @@ pub struct Trace<'a> {
     pub numbers: Vec<u32>,
     /// How many steps have completed.
     pub done: usize,
-    /// The cut that it has armed.
+    /// What is noted of each event.
+    pub notes: Vec<Note>,
+}
+
+/// What is told of a script while it is played. It holds no board.
+#[derive(Drop)]
+pub(crate) struct Tape<'a> {
+    /// All that the script has done, in order.
+    pub moves: Vec<Move<'a>>,
+    /// The number of the event that did each step that completed.
+    pub numbers: Vec<u32>,
+    /// How many steps have completed.
+    pub done: usize,
+    /// The cut that the script has armed.
     pub armed: Option<ArmedCut<'a>>,
     /// What is noted of each event.
     pub notes: Vec<Note>,
@@ -57,18 +70,16 @@ fn nearer<'a>(cut: ArmedCut<'a>) -> Option<ArmedCut<'a>>
     })
 }
 
-impl<'a> Trace<'a> {
-    /// The trace of a script that has done nothing yet to a board.
-    pub fn begin(alloc: Global, board: MemBoard) -> Trace<'a>
-        ensures board { result.board ≡ board }
+impl<'a> Tape<'a> {
+    /// The tape of a script that has done nothing yet.
+    pub(crate) fn begin(alloc: Global) -> Tape<'a>
         ensures none { result.moves.items ≡ [] }
         ensures numbers { result.numbers.items ≡ [] }
         ensures done { result.done ≡ 0 }
         ensures unarmed { result.armed ≡ None }
         ensures notes { result.notes.items ≡ [] }
     {
-        Trace {
-            board,
+        Tape {
             moves: Vec::new(alloc),
             numbers: Vec::new(alloc),
             done: 0,
@@ -77,11 +88,27 @@ impl<'a> Trace<'a> {
         }
     }
 
+    /// The trace of a script that leaves this board.
+    pub(crate) fn end(self, board: MemBoard) -> Trace<'a>
+        ensures board { result.board ≡ board }
+        ensures moves { result.moves ≡ self.entry.moves }
+        ensures numbers { result.numbers ≡ self.entry.numbers }
+        ensures done { result.done ≡ self.entry.done }
+        ensures notes { result.notes ≡ self.entry.notes }
+    {
+        Trace {
+            board,
+            moves: self.moves,
+            numbers: self.numbers,
+            done: self.done,
+            notes: self.notes,
+        }
+    }
+
     /// Arms a cut, and notes the event.
     pub(crate) fn arm(&mut self, cut: ArmedCut<'a>) -> Result<(), AllocError>
-        requires ready { IsReady self.old }
-        requires pattern { HasPattern (Some (cut_from cut)) }
-        ensures ready { OnOk result (IsReady self.new) }
+        requires { HasPattern (Some (cut_from cut)) }
+        ensures ready { OnOk result ((n : ℕ) → IsTapeIn n self.old → IsTapeIn n self.new) }
         ensures same { OnOk result (self.new ≡ with_notes (with_cut self.old cut.entry) self.new) }
         ensures noted { OnOk result (self.new.notes.items ≡ self.old.notes.items ++ record {
           outcome = CutArmed;
@@ -104,8 +131,7 @@ impl<'a> Trace<'a> {
 
     /// Notes an event whose moves are those behind the former ones.
     pub(crate) fn note(&mut self, came: Came, former: usize, whole: bool) -> Result<(), AllocError>
-        requires ready { IsReady self.old }
-        ensures ready { OnOk result (IsReady self.new) }
+        ensures ready { OnOk result ((n : ℕ) → IsTapeIn n self.old → IsTapeIn n self.new) }
         ensures same { OnOk result (self.new ≡ with_notes self.old self.new) }
         ensures noted { OnOk result (self.new.notes.items ≡ self.old.notes.items ++ record {
           outcome = came.outcome;
@@ -126,43 +152,38 @@ impl<'a> Trace<'a> {
         Ok(())
     }
 
-    /// Does a step that completes, of the event of this number.
+    /// Tells a step that completes, of the event of this number.
     fn complete(&mut self, step: &Step, number: u32) -> Result<(), AllocError>
-        requires ready { IsReady self.old }
-        requires range { IsStepIn (flash_long self.old) step.now }
-        requires few { self.old.done < 2 ^ 62 }
-        ensures ready { OnOk result (IsReady self.new) }
+        requires { self.old.done < 2 ^ 62 }
+        ensures ready { OnOk result ((n : ℕ) → IsTapeIn n self.old → IsStepIn n step.now
+            → IsTapeIn n self.new) }
         ensures done { OnOk result (HasCompleted self.old step.now number self.new) }
     {
-        complete(&mut self.board, step);
         self.moves.push(Move::Done(*step))?;
         self.numbers.push(number)?;
         self.done += 1;
         Ok(())
     }
 
-    /// Does a step that the armed cut cuts, and answers false.
+    /// Tells a step that the armed cut cuts, and answers false.
     fn lose(&mut self, step: &Step, armed: ArmedCut<'a>) -> Result<bool, AllocError>
-        requires ready { IsReady self.old }
-        requires range { IsStepIn (flash_long self.old) step.now }
-        requires armed { told_of self.old ≡ Some (cut_from armed) }
-        ensures ready { OnOk result (IsReady self.new) }
+        requires { told_of self.old ≡ Some (cut_from armed) }
+        ensures ready { OnOk result ((n : ℕ) → IsTapeIn n self.old → IsStepIn n step.now
+            → IsTapeIn n self.new) }
         ensures lost { IfOk result (λ whole. (whole ≡ false)
             × HasLost self.old step.now (cut_from armed.entry) self.new) }
     {
-        cut(&mut self.board, step, armed.within, armed.pattern);
         self.moves
             .push(Move::Torn(*step, armed.within, armed.pattern))?;
         self.armed = None;
         Ok(false)
     }
 
-    /// Does a step of the event of this number, and answers whether it completes.
+    /// Tells a step of the event of this number, and answers whether it completes.
     fn take_step(&mut self, step: &Step, number: u32) -> Result<bool, AllocError>
-        requires ready { IsReady self.old }
-        requires range { IsStepIn (flash_long self.old) step.now }
-        requires few { self.old.done < 2 ^ 62 }
-        ensures ready { OnOk result (IsReady self.new) }
+        requires { self.old.done < 2 ^ 62 }
+        ensures ready { OnOk result ((n : ℕ) → IsTapeIn n self.old → IsStepIn n step.now
+            → IsTapeIn n self.new) }
         ensures taken { IfOk result
             (λ whole. HasTaken self.old (step.now ∷ []) number whole self.new) }
     {
@@ -176,13 +197,12 @@ impl<'a> Trace<'a> {
         Ok(true)
     }
 
-    /// Does the steps of the event of this number, up to the one that the armed cut cuts, and
+    /// Tells the steps of the event of this number, up to the one that the armed cut cuts, and
     /// answers whether all complete.
-    pub fn take_steps(&mut self, steps: &[Step], number: u32) -> Result<bool, AllocError>
-        requires ready { IsReady self.old }
-        requires range { All (IsStepIn (flash_long self.old)) steps.now }
-        requires few { self.old.done + length steps.now < 2 ^ 62 }
-        ensures ready { OnOk result (IsReady self.new) }
+    pub(crate) fn take_steps(&mut self, steps: &[Step], number: u32) -> Result<bool, AllocError>
+        requires { self.old.done + length steps.now < 2 ^ 62 }
+        ensures ready { OnOk result ((n : ℕ) → IsTapeIn n self.old → All (IsStepIn n) steps.now
+            → IsTapeIn n self.new) }
         ensures taken { IfOk result (λ whole. HasTaken self.old steps.now number whole self.new) }
     {
         for step in steps {

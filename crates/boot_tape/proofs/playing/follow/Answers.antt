@@ -1,36 +1,55 @@
-use Rattle.std.proofs.Common.{◌+◌, ap, arith, sym}
+use Rattle.std.proofs.Common.{◌+◌, ap, arith, length, subst, sym}
+use Rattle.pico_board.specs.MemBoard.{state_of}
 use Rattle.boot_script.specs.Events.{event_from}
-use Rattle.boot_tape.specs.declared.trace.Trace.{Trace}
-use Rattle.boot_tape.specs.Playing.{cut_from}
-use Rattle.boot_tape.proofs.PlayLemmas.{follow-anew, follow-whole, pattern-of, play-armed}
+use Rattle.boot_machine.specs.Plays.{powerless}
+use Rattle.boot_tape.specs.declared.trace.Tape.{Tape}
+use Rattle.boot_tape.specs.Moving.{AreMovesIn}
+use Rattle.boot_tape.proofs.PlayLemmas.{follow-anew, follow-whole, play-armed}
 use Rattle.boot_tape.proofs.playing.follow.Goals as goal
 
-pub arm-requires-clause-pattern : goal.arm-requires-clause-pattern
-arm-requires-clause-pattern c =
-    pattern-of (event_from c.args.event.now) (cut_from c.in-Some.cut) (sym c.in-Some.ensures) c.requires.writable
-
 pub returns-in-Some-clause-played : goal.returns-in-Some-clause-played
-returns-in-Some-clause-played c = λ m all left is play. (
-  λ many.
-      let short = c.requires.short in
-      let same = ap (λ (t : Trace). t.done) c.in_ok-arm.ensures.same in absurd (omega (arith, many, short, same)),
-  λ few. play-armed c.args.machine.now c.args.trace.now c.arm.new.self m all left (event_from c.args.event.now)
-      c.args.number c.in-Some.cut (sym c.in-Some.ensures) c.in_ok-arm.ensures.same c.in_ok-arm.ensures.noted play,
-)
-
-pub returns-in_ok-machine-clause-played : goal.returns-in_ok-machine-clause-played
-returns-in_ok-machine-clause-played c = λ m all left is play.
-    let played = c.in_ok-play.ensures.played m all left play in (
-      played.0,
-      λ few. follow-anew c.play.new.machine c.in_ok-machine.field-0 c.play.new.trace m all left (c.args.number + 1)
-          c.in_ok-play.field-0 c.args.cpu c.if-not-branch.true is (played.1 few) c.in_ok-machine.ensures.stands c.in_ok-machine.ensures.none,
+returns-in-Some-clause-played c = λ all left play.
+    let m = powerless (state_of c.args.start.now).content c.args.cpu in (
+      λ many.
+          let short = c.requires.short in
+          let same = ap (λ (t : Tape). t.done) c.in_ok-arm.ensures.same in absurd (omega (arith, many, short, same)),
+      λ few. play-armed c.args.machine c.args.tape.now c.arm.new.self m all left (event_from c.args.event.now)
+          c.args.number c.in-Some.cut (sym c.in-Some.ensures) c.in_ok-arm.ensures.same c.in_ok-arm.ensures.noted play,
     )
 
-pub returns-else-not-branch-clause-played : goal.returns-else-not-branch-clause-played
-returns-else-not-branch-clause-played c = λ m all left is play.
+pub anew-requires-clause-range : goal.anew-requires-clause-range
+anew-requires-clause-range c =
+    let m = powerless (state_of c.args.start.now).content c.args.cpu in
+    let n = length (state_of c.args.start.now).content.flash in
+    let play = c.requires.play in
+    let ready = c.in_ok-play.ensures.ready m play.0 play.1 play.2 c.requires.ready in
+    subst (λ ms. AreMovesIn n ms) (sym c.deref.ensures.value) ready.inside
+
+pub returns-then-branch-clause-ready : goal.returns-then-branch-clause-ready
+returns-then-branch-clause-ready c =
+    let m = powerless (state_of c.args.start.now).content c.args.cpu in
+    let play = c.requires.play in c.in_ok-play.ensures.ready m play.0 play.1 play.2 c.requires.ready
+
+pub returns-then-branch-clause-played : goal.returns-then-branch-clause-played
+returns-then-branch-clause-played c = λ all left play.
+    let m = powerless (state_of c.args.start.now).content c.args.cpu in
     let played = c.in_ok-play.ensures.played m all left play in (
       played.0,
-      λ few. follow-whole c.play.new.machine c.play.new.trace m all left (c.args.number + 1)
-          c.in_ok-play.field-0 c.if-not-branch.false
-          (played.1 few),
+      λ few. follow-whole c.play.new.machine c.play.new.tape m all left (c.args.number + 1)
+          c.in_ok-play.field-0 c.if-branch.true (played.1 few),
+    )
+
+pub returns-clause-ready : goal.returns-clause-ready
+returns-clause-ready c =
+    let m = powerless (state_of c.args.start.now).content c.args.cpu in
+    let play = c.requires.play in c.in_ok-play.ensures.ready m play.0 play.1 play.2 c.requires.ready
+
+pub returns-clause-played : goal.returns-clause-played
+returns-clause-played c = λ all left play.
+    let m = powerless (state_of c.args.start.now).content c.args.cpu in
+    let played = c.in_ok-play.ensures.played m all left play in (
+      played.0,
+      λ few. follow-anew c.play.new.machine c.in_ok-next.next c.play.new.tape c.deref.result.now m all left
+          (c.args.number + 1) c.in_ok-play.field-0 c.if-branch.false c.deref.ensures.value (played.1 few)
+          c.in_ok-next.ensures.stands c.in_ok-next.ensures.none,
     )

@@ -1,31 +1,38 @@
-use Rattle.std.proofs.Common.{◌∙◌, List, ap, length, refl, subst, sym, arith}
+use Rattle.std.proofs.Common.{◌∙◌, List, ap, length, subst, sym, arith}
 use Rattle.pico_board.specs.MemBoard.{state_of}
 use Rattle.boot_script.specs.Events.{EventView}
 use Rattle.boot_script.specs.Scripts.{script_events}
 use Rattle.boot_script.proofs.JudgingLemmas.{script-formed}
 use Rattle.boot_script.proofs.WalkLemmas.{few-records}
 use Rattle.boot_machine.specs.Plays.{powerless}
+use Rattle.boot_tape.specs.Moving.{AreMovesIn}
 use Rattle.boot_tape.specs.Playing.{IsPlay}
-use Rattle.boot_tape.proofs.PlayLemmas.{begins-ready, play-first, traced-end}
+use Rattle.boot_tape.proofs.PlayLemmas.{begins-in, play-first, traced-end}
 use Rattle.boot_tape.proofs.playing.trace_on.Goals as goal
+
+pub machine_of-requires-clause-range : goal.machine_of-requires-clause-range
+machine_of-requires-clause-range c =
+    subst (λ ms. AreMovesIn (length (state_of c.args.board.now).content.flash) ms)
+    (sym (c.deref.ensures.value ∙ c.begin-tape.ensures.none)) tt
 
 pub loop-event-init : goal.loop-event-init
 loop-event-init c =
-    let content = (state_of c.args.board).content in
+    let content = (state_of c.args.board.now).content in
     let events = script_events c.args.script.now.bytes.now in
-    let begun = c.begin-trace.ensures in
+    let tape = c.begin-tape.result in
+    let begun = c.begin-tape.ensures in
     let none = begun.done in
     let bytes = c.args.script.now.bytes.now in
     let all = sym (c.into_iter-event-iterator.ensures.into_iter_gives ∙ c.events-event-items.ensures) in
     let few = few-records bytes (script-formed bytes c.args.script.now.whole) in
     let size = ap (λ (es : List EventView). length es) all in record {
       few = omega (arith, few, size);
-      ready = begins-ready c.begin-trace.result c.args.board c.requires begun.board begun.none begun.unarmed;
+      ready = begins-in (length content.flash) tape begun.none begun.unarmed;
       short = omega (arith, none);
-      play = subst (λ es. IsPlay c.in_ok-machine.machine c.begin-trace.result (powerless content c.args.cpu) events es 0) all
-          (play-first c.in_ok-machine.machine c.begin-trace.result content c.args.cpu events
-          (ap (λ b. (state_of b).content) begun.board) begun.none begun.numbers begun.done begun.unarmed begun.notes
-          c.in_ok-machine.ensures.stands c.in_ok-machine.ensures.none);
+      play = subst (λ es. IsPlay c.in_ok-machine.machine tape (powerless content c.args.cpu) events es 0) all
+          (play-first c.in_ok-machine.machine tape c.deref.result.now content c.args.cpu events c.deref.ensures.value
+          begun.none begun.numbers begun.done begun.unarmed begun.notes c.in_ok-machine.ensures.stands
+          c.in_ok-machine.ensures.none);
     }
 
 pub overflow_add-number : goal.overflow_add-number
@@ -36,31 +43,32 @@ follow-requires-clause-writable c = c.in-Some.ensures.steps.1
 
 pub loop-event-preserved : goal.loop-event-preserved
 loop-event-preserved c =
-    let content = (state_of c.args.board).content in
     let events = script_events c.args.script.now.bytes.now in
-    let m = powerless content c.args.cpu in
+    let m = powerless (state_of c.args.board.now).content c.args.cpu in
     let size = ap (λ (es : List EventView). length es) c.in-Some.ensures.steps.0 in
     let few = c.loop-event.invariant.few in record {
       few = omega (arith, few, size);
-      ready = c.in_ok-follow.ensures.ready;
-      short = c.if-trace-gt-STEP_LIMIT.false;
-      play = (c.in_ok-follow.ensures.played m events c.next.new.self refl
-          (subst (λ es. IsPlay c.loop-event.machine c.loop-event.trace m events es c.loop-event.number) c.in-Some.ensures.steps.0
-          c.loop-event.invariant.play)).1 c.if-trace-gt-STEP_LIMIT.false;
+      ready = c.in_ok-machine-2.ensures.ready;
+      short = c.if-tape-gt-STEP_LIMIT.false;
+      play = (c.in_ok-machine-2.ensures.played events c.next.new.self
+          (subst (λ es. IsPlay c.loop-event.machine c.loop-event.tape m events es c.loop-event.number) c.in-Some.ensures.steps.0
+          c.loop-event.invariant.play)).1 c.if-tape-gt-STEP_LIMIT.false;
     }
 
-pub returns-then-trace-gt-STEP_LIMIT : goal.returns-then-trace-gt-STEP_LIMIT
-returns-then-trace-gt-STEP_LIMIT c =
-    let content = (state_of c.args.board).content in
+pub returns-then-tape-gt-STEP_LIMIT : goal.returns-then-tape-gt-STEP_LIMIT
+returns-then-tape-gt-STEP_LIMIT c =
     let events = script_events c.args.script.now.bytes.now in
-    let m = powerless content c.args.cpu in
-    (c.in_ok-follow.ensures.played m events c.next.new.self refl
-    (subst (λ es. IsPlay c.loop-event.machine c.loop-event.trace m events es c.loop-event.number) c.in-Some.ensures.steps.0
-    c.loop-event.invariant.play)).0 c.if-trace-gt-STEP_LIMIT.true
+    let m = powerless (state_of c.args.board.now).content c.args.cpu in
+    (c.in_ok-machine-2.ensures.played events c.next.new.self
+    (subst (λ es. IsPlay c.loop-event.machine c.loop-event.tape m events es c.loop-event.number) c.in-Some.ensures.steps.0
+    c.loop-event.invariant.play)).0 c.if-tape-gt-STEP_LIMIT.true
 
 pub returns : goal.returns
 returns c =
-    let content = (state_of c.args.board).content in
+    let content = (state_of c.args.board.now).content in
     let events = script_events c.args.script.now.bytes.now in
-    traced-end c.loop-event.machine c.loop-event.trace content c.args.cpu events c.loop-event.event-iterator
-    c.loop-event.number c.in-None.ensures.steps.0 c.loop-event.invariant.ready c.loop-event.invariant.short c.loop-event.invariant.play
+    let ended = c.end.ensures in
+    traced-end c.loop-event.machine c.loop-event.tape c.board_of.result c.end.result content c.args.cpu events
+    c.loop-event.event-iterator c.loop-event.number c.in-None.ensures.steps.0 c.loop-event.invariant.ready
+    c.loop-event.invariant.short c.loop-event.invariant.play c.board_of.ensures
+    (record { board_ = ended.board; moves = ended.moves; numbers = ended.numbers; notes = ended.notes })

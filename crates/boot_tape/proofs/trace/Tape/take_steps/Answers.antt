@@ -1,9 +1,16 @@
-use Rattle.std.proofs.Common.{◌∙◌, false, true, subst, sym, arith, List}
+use Rattle.std.proofs.Common.{false, true, subst, sym, arith, List}
 use Rattle.std.proofs.lemmas.List.{drop_all}
+use Rattle.std.proofs.lemmas.List.Elements.{All-get_or}
+use Rattle.pico_board.specs.Steps.{IsStepIn}
 use Rattle.pico_board.specs.declared.Step.{Step}
 use Rattle.boot_tape.specs.Playing.{IsLeftBy, cut_moves, told_of}
 use Rattle.boot_tape.proofs.TraceLemmas.{left-none, loop-lost, loop-more, one-done}
-use Rattle.boot_tape.proofs.trace.Trace.take_steps.Goals as goal
+use Rattle.boot_tape.proofs.trace.Tape.take_steps.Goals as goal
+
+pub returns-then-not-branch-clause-ready : goal.returns-then-not-branch-clause-ready
+returns-then-not-branch-clause-ready c = λ n is all.
+    c.in_ok-take_step.ensures.ready n (c.loop-step.invariant.ready n is all)
+    (All-get_or (IsStepIn n) c.args.steps.now c.loop-step.step-index _ c.loop-step-test.true all)
 
 pub returns-then-not-branch-clause-taken : goal.returns-then-not-branch-clause-taken
 returns-then-not-branch-clause-taken c =
@@ -17,8 +24,8 @@ loop-step-preserved c =
     let taken = c.in_ok-take_step.ensures.taken in
     let few = inv.few in
     let most = one-done c.loop-step.self c.take_step.new.self _ c.args.number c.in_ok-take_step.field-0 taken in record {
-      ready = c.in_ok-take_step.ensures.ready;
-      size = taken.size ∙ inv.size;
+      ready = λ n is all. c.in_ok-take_step.ensures.ready n (inv.ready n is all)
+          (All-get_or (IsStepIn n) c.args.steps.now c.loop-step.step-index _ c.loop-step-test.true all);
       few = omega (arith, few, most);
       rest = λ whole new later. inv.rest whole new
           (loop-more c.loop-step.self c.take_step.new.self new c.loop-step.step-index _ c.args.steps.now
