@@ -14,7 +14,7 @@ use Rattle.boot_session.specs.Recordings.{step_limit}
 use Rattle.boot_session.proofs.PlanStepLemmas.{all-append}
 use Rattle.boot_sweep.specs.declared.moves.Move.{Move}
 use Rattle.boot_tape.specs.declared.notes.Note.{Note}
-use Rattle.boot_tape.specs.Moving.{AreMovesIn, Done, IsMoveIn, MoveView, Torn, after_move, after_moves, does_step, done_steps, move_from, moves_from, traced_by}
+use Rattle.boot_tape.specs.Moving.{AreMovesIn, Done, IsMoveIn, MoveView, Torn, after_moves, does_step, done_steps, move_from, moves_from, traced_by}
 use Rattle.boot_tape.specs.declared.trace.Trace.{Trace}
 use Rattle.boot_tape.specs.Playing.{IsTraceOf, flash_long}
 use Rattle.boot_tape.specs.Traces.{Traced}
@@ -23,16 +23,11 @@ use Rattle.check_laws.specs.declared.made.WriteLaws.{WriteLaws}
 use Rattle.check_laws.specs.Hosting.{host_done, host_writes}
 use Rattle.check_laws.specs.Made.{laws_over, laws_with, made_by, made_of}
 
--- the first moves lie in the flash, and so do those behind them
+-- the first moves lie in the flash
 pub front-in : (n k : ℕ) (ms : List Move) → AreMovesIn n ms → AreMovesIn n (take k ms)
 front-in n zero ms all = tt
 front-in n (suc k) [] all = tt
 front-in n (suc k) (m ∷ ms) all = (all.0, front-in n k ms all.1)
-
-pub rest-in : (n k : ℕ) (ms : List Move) → AreMovesIn n ms → AreMovesIn n (drop k ms)
-rest-in n zero ms all = all
-rest-in n (suc k) [] all = tt
-rest-in n (suc k) (m ∷ ms) all = rest-in n k ms all.1
 
 -- they are the first moves as plain data
 pub front-from : (k : ℕ) (ms : List Move) → moves_from (take k ms) ≡ take k (moves_from ms)
@@ -44,19 +39,6 @@ pub rest-from : (k : ℕ) (ms : List Move) → moves_from (drop k ms) ≡ drop k
 rest-from zero ms = refl
 rest-from (suc k) [] = refl
 rest-from (suc k) (m ∷ ms) = rest-from k ms
-
--- the move at a place
-pub move-in : (n i : ℕ) (ms : List Move) (m : Move) → i < length ms → AreMovesIn n ms
-    → IsMoveIn n (move_from (get_or ms i m))
-move-in n i ms m lt all = (subst (λ xs. AreMovesIn n xs) (drop_more ms i m lt) (rest-in n i ms all)).0
-
--- one move more was done
-pub done-more : (c d e : Content) (i : ℕ) (ms : List Move) (m : Move) → i < length ms
-    → d ≡ after_move c (move_from (get_or ms i m)) → after_moves c (moves_from (drop i ms)) ≡ e
-    → after_moves d (moves_from (drop (i + 1) ms)) ≡ e
-done-more c d e i ms m lt one rest =
-    ap (λ x. after_moves x (moves_from (drop (i + 1) ms))) one
-    ∙ (ap (λ xs. after_moves c (moves_from xs)) (sym (drop_more ms i m lt)) ∙ rest)
 
 -- the steps that complete, of two lists of moves
 pub done-append : (xs ys : List MoveView) → done_steps (xs ++ ys) ≡ done_steps xs ++ done_steps ys

@@ -5,15 +5,13 @@ ghost use Rattle.pico_board.specs.MemBoard.{state_of};
 ghost use Rattle.sector_pool.specs.Pool.{HasFree};
 ghost use Rattle.boot_script.specs.Events.{EventView};
 ghost use Rattle.boot_session.specs.Standing.{IsUnarmed};
-ghost use Rattle.boot_tape.specs.Moving.{AreMovesIn, after_move, after_moves, done_steps, move_from, moves_from};
+ghost use Rattle.boot_tape.specs.Moving.{AreMovesIn, after_moves, done_steps, move_from, moves_from};
 ghost use Rattle.boot_tape.specs.Playing.{IsTraceOf};
-ghost use Rattle.boot_sweep.specs.Moving.{IsMoveIn};
 ghost use Rattle.check_laws.specs.Made.{does_step, law_with, laws_by, laws_over, laws_with, made_by, made_of, no_writes};
 ghost use Rattle.check_laws.specs.OwnLaws.{IsBootLaw, IsBuyLaw};
 
 use crate::own::{boot_kept, raises_own};
-use boot_sweep::{complete, cut};
-use boot_tape::{Behind, Move, Note, Trace, copy_of};
+use boot_tape::{Behind, Move, Note, Trace, copy_of, do_moves};
 use check_require::LawOfWrites;
 use pico_board::{Cpu, MemBoard, Step};
 use sector_pool::SectorPool;
@@ -108,37 +106,6 @@ fn laws_with(
         laws_by(board, pool, cpu, laws, by, done)
     } else {
         laws
-    }
-}
-
-/// Does a move.
-fn do_move(board: &mut MemBoard, moved: &Move<'_>)
-    requires ready { IsUnarmed (state_of board.old) }
-    requires range { IsMoveIn (length (state_of board.old).content.flash) (move_from moved.now) }
-    ensures ready { IsUnarmed (state_of board.new) }
-    ensures moved { (state_of board.new).content
-        ≡ after_move (state_of board.old).content (move_from moved.now) }
-    ensures size { length (state_of board.new).content.flash
-        ≡ length (state_of board.old).content.flash }
-{
-    match moved {
-        Move::Done(step) => complete(board, step),
-        Move::Torn(step, within, pattern) => cut(board, step, *within, pattern),
-    }
-}
-
-/// Does moves, one after another.
-pub(crate) fn do_moves(board: &mut MemBoard, moves: &[Move<'_>])
-    requires ready { IsUnarmed (state_of board.old) }
-    requires range { AreMovesIn (length (state_of board.old).content.flash) moves.now }
-    ensures ready { IsUnarmed (state_of board.new) }
-    ensures moved { (state_of board.new).content
-        ≡ after_moves (state_of board.old).content (moves_from moves.now) }
-    ensures size { length (state_of board.new).content.flash
-        ≡ length (state_of board.old).content.flash }
-{
-    for moved in moves {
-        do_move(board, moved);
     }
 }
 

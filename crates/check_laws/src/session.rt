@@ -19,13 +19,13 @@ ghost use Rattle.check_laws.specs.SessionLaws.{IsSessionLaw, IsStepsLaw, IsWritt
 use crate::found::{Reason, SessionFound};
 use crate::host_writes::{boot_count, host_done, host_writes};
 use crate::hosting::is_hosts;
-use crate::made::{do_moves, first, pool_of};
+use crate::made::{first, pool_of};
 use crate::staging::is_staged;
 use boot_rules::{Found, boot_units_in, decide, find_table};
 use boot_script::Script;
 use boot_session::slot_among;
 use boot_sweep::{are_confined, complete, is_start_in, ungated};
-use boot_tape::{Trace, copy_of};
+use boot_tape::{Trace, copy_of, do_moves};
 use pico_board::{BootKind, Cpu, MemBoard, Step, Window};
 use sector_pool::SectorPool;
 use std::alloc::{AllocError, Global};

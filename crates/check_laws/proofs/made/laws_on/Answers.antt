@@ -2,7 +2,8 @@ use Rattle.std.proofs.Common.{length, subst, sym}
 use Rattle.pico_board.specs.MemBoard.{state_of}
 use Rattle.boot_tape.specs.Moving.{AreMovesIn, moves_from}
 use Rattle.check_laws.specs.Made.{laws_over, made_by, no_writes}
-use Rattle.check_laws.proofs.PassLemmas.{front-in, laws-more, rest-in}
+use Rattle.boot_tape.proofs.MovingLemmas.{rest-in}
+use Rattle.check_laws.proofs.PassLemmas.{front-in, laws-more}
 use Rattle.check_laws.proofs.made.laws_on.Goals as goal
 
 pub pass-requires-clause-range : goal.pass-requires-clause-range

@@ -1,7 +1,8 @@
 use Rattle.std.proofs.Common.{◌∙◌, ap, length, subst, sym}
 use Rattle.pico_board.specs.MemBoard.{state_of}
 use Rattle.boot_tape.specs.Moving.{AreMovesIn, after_moves, done_steps, moves_from}
-use Rattle.check_laws.proofs.PassLemmas.{both-moved, front-in, judged-as, rest-in}
+use Rattle.boot_tape.proofs.MovingLemmas.{rest-in}
+use Rattle.check_laws.proofs.PassLemmas.{both-moved, front-in, judged-as}
 use Rattle.check_laws.proofs.made.pass.Goals as goal
 
 pub do_moves-requires-clause-range : goal.do_moves-requires-clause-range
