@@ -15,7 +15,7 @@ use crate::finding::findings_on;
 use crate::lines::check_text;
 use crate::reporting::report_of;
 use boot_script::Script;
-use boot_tape::{Trace, copy_of, trace_on};
+use boot_tape::{Trace, trace_on};
 use check_require::{Require, Verdict, default_require, unmet, verdict_on};
 use cli_course::{Answer, Status, ended, refusal};
 use cli_inputs::Pattern;
@@ -78,8 +78,7 @@ pub fn check_asked<'a>(
         (state_of board).content cpu name.now script.entry.bytes.now
         pattern.entry.bytes.now (require_from ask.now))) }
 {
-    let copy = copy_of(alloc, &board)?;
-    match trace_on(alloc, copy, cpu, &script)? {
+    match trace_on(alloc, &board, cpu, &script)? {
         Some(trace) => judged(alloc, &board, cpu, &trace, &script, pattern, ask),
         None => refusal(alloc, name, "too-many-steps"),
     }

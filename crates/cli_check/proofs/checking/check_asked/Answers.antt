@@ -15,27 +15,22 @@ use Rattle.cli_check.proofs.checking.check_asked.Goals as goal
 pub returns-in-Some : goal.returns-in-Some
 returns-in-Some c =
     let content = (state_of c.args.board).content in
-    let copied = (state_of c.in_ok-copy.copy).content in
     let cpu = c.args.cpu in
     let events = script_events c.args.script.bytes.now in
-    let is = subst (λ o. MatchOption o (IsTracedTooLong copied cpu events) (IsTraceOf copied cpu events)) c.in-Some.is
+    let is = subst (λ o. MatchOption o (IsTracedTooLong content cpu events) (IsTraceOf content cpu events)) c.in-Some.is
     c.in_ok-trace.ensures in
-    let few = subst (λ (x : Content). length (trace x cpu events).done ≤ trace_limit) c.in_ok-copy.ensures.same
-    is.short in
     subst (λ (w : Work). IfOk c.judged.result (λ answer. answer_from answer ≡ worked w))
     (sym (short-work content cpu c.args.name.now c.args.script.bytes.now c.args.pattern.bytes.now
-    (require_from c.args.ask.now) few))
+    (require_from c.args.ask.now) is.short))
     c.judged.ensures
 
 pub returns : goal.returns
 returns c =
     let content = (state_of c.args.board).content in
-    let copied = (state_of c.in_ok-copy.copy).content in
     let cpu = c.args.cpu in
     let events = script_events c.args.script.bytes.now in
-    let is = subst (λ o. MatchOption o (IsTracedTooLong copied cpu events) (IsTraceOf copied cpu events)) c.in-None.is
+    let many = subst (λ o. MatchOption o (IsTracedTooLong content cpu events) (IsTraceOf content cpu events)) c.in-None.is
     c.in_ok-trace.ensures in
-    let many = subst (λ (x : Content). trace_limit < length (trace x cpu events).done) c.in_ok-copy.ensures.same is in
     subst (λ (w : Work). IfOk c.refusal.result (λ answer. answer_from answer ≡ worked w))
     (sym (long-work content cpu c.args.name.now c.args.script.bytes.now c.args.pattern.bytes.now
     (require_from c.args.ask.now) many))
