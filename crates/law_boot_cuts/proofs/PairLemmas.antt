@@ -57,7 +57,8 @@ pub takes-mine : (m : Member) (u : SlotUnit) (s : Started) (b : Option Started) 
     → pair_choice m u (Some s) b ≡ Some (choice_of u m false s)
 takes-mine A u s b (no_image e) = ap (in_order u (Some s)) e
 takes-mine B u s b (no_image e) = ap (λ o. in_order u o (Some s)) e
-takes-mine A u s b (not_better t e is) = ap (in_order u (Some s)) e ∙ by-better u s t A (not-second (better_of s.version t.version) is)
+takes-mine A u s b (not_better t e is) =
+    ap (in_order u (Some s)) e ∙ by-better u s t A (not-second (better_of s.version t.version) is)
 takes-mine B u s b (not_better t e is) =
     ap (λ o. in_order u o (Some s)) e ∙ by-better u t s B (not-first (better_of t.version s.version) is)
 
@@ -70,6 +71,7 @@ pub takes-other : (m : Member) (u : SlotUnit) (a : Option Started) (t : Started)
     → pair_choice m u a (Some t) ≡ Some (choice_of u (other_of m) false t)
 takes-other A u a t (absent e) = ap (λ o. in_order u o (Some t)) e
 takes-other B u a t (absent e) = ap (in_order u (Some t)) e
-takes-other A u a t (beaten s e is) = ap (λ o. in_order u o (Some t)) e ∙ by-better u s t B (second (better_of s.version t.version) is)
+takes-other A u a t (beaten s e is) =
+    ap (λ o. in_order u o (Some t)) e ∙ by-better u s t B (second (better_of s.version t.version) is)
 takes-other B u a t (beaten s e is) =
     ap (in_order u (Some t)) e ∙ by-better u t s A (first (better_of t.version s.version) is)
