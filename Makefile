@@ -12,7 +12,7 @@
 # make interface  writes the completions and the manual's synopsis anew, as the program's own --help has them
 # make faults     compares the page of faults with the program's code; needs no program
 # make faults-io  makes each file call of each command fail in turn; needs strace
-# make plays      counts that cuts and check play a script once; needs gdb
+# make plays      counts that cuts and check play a script once, with the program of make demo; needs gdb
 # make fuzz       changes the example files at random for a quarter of an hour, and looks at how each command ends
 # make board      makes the cases for a board, compares their sheet, tries the kit on a board's stand-in that fails, and plays
 #                 all cases on the program in a board's place
@@ -95,7 +95,7 @@ faults-io:
 	@$(NEWER); python3 tools/faults_of_io.py "$$program"
 
 plays:
-	@$(NEWER); python3 tools/plays.py "$$program"
+	@python3 tools/plays.py out/dugnatsew
 
 fuzz:
 	@$(NEWER); python3 tools/fuzz.py "$$program"

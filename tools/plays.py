@@ -5,8 +5,8 @@
 
 A debugger counts the calls by which a machine takes an event, also the reset by which `cuts` and
 `check` make a boot that a command asks for. `replay` prints a line for each event, so these lines
-tell how many calls there have to be. It needs gdb, and a program with its symbols, as `make` and
-`make demo` build it.
+tell how many calls there have to be. It needs gdb, and a program with its symbols, as `make demo`
+builds it.
 """
 import os
 import re
@@ -57,6 +57,8 @@ def main(program):
     if not shutil.which("gdb"):
         print("plays: skipped, since gdb is not here")
         return 0
+    if not os.path.isfile(program):
+        sys.exit(f'plays: there is no {program}: "make demo" builds it')
     program = os.path.realpath(program)
     offsets = addresses(program)
     if not offsets:
