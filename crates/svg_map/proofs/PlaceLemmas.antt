@@ -1,21 +1,9 @@
 -- The rectangles of windows that lie side by side fill the column.
 use Rattle.std.proofs.Common.{◌≡◌, ℕ, ◌+◌, List, [], ◌∷◌, ◌++◌, map, refl, sym, ap, ◌∙◌, subst, append-nil}
-use Rattle.svg_marks.specs.declared.mark.Area.{Area}
-use Rattle.svg_marks.specs.Marks.{Mark, Plain, Rect, Label, Caption, Strip, Column, StripEnd, Line, Lines}
-use Rattle.svg_map.specs.Maps.{MapBarView, area_at, bar_height, map_marks, row_marks, rows_from, windows_from}
-use Rattle.svg_map.specs.Places.{FillFrom, LieFrom, rects_of}
-
-rects-joined : (xs ys : List Mark) → rects_of (xs ++ ys) ≡ rects_of xs ++ rects_of ys
-rects-joined [] ys = refl
-rects-joined (Rect class area colour title ∷ xs) ys = ap (λ z. area ∷ z) (rects-joined xs ys)
-rects-joined (Plain area colour ∷ xs) ys = rects-joined xs ys
-rects-joined (Label x y words ∷ xs) ys = rects-joined xs ys
-rects-joined (Caption class x y words ∷ xs) ys = rects-joined xs ys
-rects-joined (Strip area units ∷ xs) ys = rects-joined xs ys
-rects-joined (Column area units ∷ xs) ys = rects-joined xs ys
-rects-joined (StripEnd ∷ xs) ys = rects-joined xs ys
-rects-joined (Line class ends colour title ∷ xs) ys = rects-joined xs ys
-rects-joined (Lines class x y words starts ∷ xs) ys = rects-joined xs ys
+use Rattle.svg_marks.specs.Marks.{Mark, rects_of}
+use Rattle.svg_marks.proofs.RectLemmas.{rects-joined}
+use Rattle.svg_map.specs.Maps.{MapBarView, bar_height, map_marks, row_marks, rows_from, windows_from}
+use Rattle.svg_map.specs.Places.{FillFrom, LieFrom}
 
 one-row : (flash high k top : ℕ) (bar : MapBarView) (more : List Mark)
     → rects_of (row_marks flash high k top bar ++ more) ≡ rects_of more

@@ -8,11 +8,10 @@ use Rattle.pico_board.specs.declared.window.Window.{Window}
 use Rattle.pico_board.specs.Content.{flash_base}
 use Rattle.svg_marks.specs.declared.class.Class.{Class}
 use Rattle.svg_marks.specs.declared.class.Class.TheVariants as classes
-use Rattle.svg_marks.specs.declared.mark.Area.{Area}
 use Rattle.svg_marks.specs.declared.mark.Colour.{Colour}
 use Rattle.svg_marks.specs.declared.mark.Colour.TheVariants.{Ink, Grey, Blue, Orange, Slate, Sky}
 use Rattle.svg_marks.specs.Breaks.{line_count}
-use Rattle.svg_marks.specs.Marks.{Mark, Plain, Rect, Column, StripEnd, Line, Lines, Picture, line_height, line_words}
+use Rattle.svg_marks.specs.Marks.{Mark, Plain, Rect, Column, StripEnd, Line, Lines, Picture, area_at, line_height, line_words}
 use Rattle.svg_map.specs.declared.bars.MapBar.{MapBar}
 
 -- what is drawn of a window: where it lies, what is said of it, whether it is free, and whether a
@@ -51,9 +50,6 @@ bar_colour k bar =
     if bar.free then Grey else
     if bar.starts then Orange else
     if k % 2 == 0 then Blue else Sky
-
-abbrev pub area_at : ℕ → ℕ → ℕ → ℕ → Area
-area_at x y width height = record { x = x; y = y; width = width; height = height }
 
 -- the rectangle of the window of this number, in a column of one unit a byte
 abbrev pub window_mark : ℕ → MapBarView → Mark

@@ -1,14 +1,7 @@
 -- Where the rectangles of a map lie in its column.
 use Rattle.std.specs.Prelude.{◌≡◌, ℕ, ◌+◌, List, [], ◌∷◌}
 use Rattle.svg_marks.specs.declared.mark.Area.{Area}
-use Rattle.svg_marks.specs.Marks.{Mark, Rect}
 use Rattle.svg_map.specs.Maps.{MapBarView}
-
--- the areas of the rectangles that are counted, in their order
-abbrev pub rects_of : List Mark → List Area
-rects_of [] = []
-rects_of (Rect class area colour title ∷ marks) = area ∷ rects_of marks
-rects_of (mark ∷ marks) = rects_of marks
 
 -- windows that lie side by side in a flash of n bytes, from this byte on
 abbrev pub LieFrom : ℕ → ℕ → List MapBarView → Type 0

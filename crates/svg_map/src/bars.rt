@@ -3,11 +3,11 @@
 ghost use Rattle.std.specs.Prelude.{◌≡◌, ◌≤◌, ◌^◌, ◌+◌, ◌++◌, IfOk, OnOk, drop, map, string_bytes};
 ghost use Rattle.std.specs.List.{flat_map};
 ghost use Rattle.svg_marks.specs.Marks.{line_words, mark_text};
-ghost use Rattle.svg_map.specs.Maps.{area_at, bar_from, bar_colour, row_words, window_mark, windows_from};
+ghost use Rattle.svg_map.specs.Maps.{bar_from, bar_colour, row_words, window_mark, windows_from};
 
 use pico_board::Window;
 use std::alloc::{AllocError, Global};
-use svg_marks::{Area, Class, Colour, push_rect};
+use svg_marks::{Class, Colour, area_at, push_rect};
 
 /// What is drawn of a window of a flash.
 #[derive(Drop, Debug)]
@@ -20,18 +20,6 @@ pub struct MapBar {
     pub free: bool,
     /// Whether a boot starts the image of the bar.
     pub starts: bool,
-}
-
-/// A place.
-pub fn area_at(x: usize, y: usize, width: usize, height: usize) -> Area
-    ensures { result ≡ area_at x y width height }
-{
-    Area {
-        x,
-        y,
-        width,
-        height,
-    }
 }
 
 /// The colour of the window of this number.

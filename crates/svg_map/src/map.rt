@@ -5,10 +5,10 @@ ghost use Rattle.std.specs.List.{flat_map};
 ghost use Rattle.svg_marks.specs.Marks.{front_text, mark_text, picture_text};
 ghost use Rattle.svg_map.specs.Maps.{bar_from, map_marks, map_picture, map_words};
 
-use crate::bars::{MapBar, area_at, push_windows};
+use crate::bars::{MapBar, push_windows};
 use crate::rows::{column_height, push_rows};
 use std::alloc::{AllocError, Global};
-use svg_marks::{Colour, close_strip, open_column, push_end, push_front, push_plain};
+use svg_marks::{Colour, area_at, close_strip, open_column, push_end, push_front, push_plain};
 
 /// What the command says of a flash of so many windows.
 #[tactic(auto, unfolding(crate::specs::Maps::map_words))]

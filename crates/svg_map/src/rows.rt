@@ -6,10 +6,12 @@ ghost use Rattle.svg_marks.specs.Breaks.{line_count};
 ghost use Rattle.svg_marks.specs.Marks.{line_height, mark_text};
 ghost use Rattle.svg_map.specs.Maps.{bar_from, column_height, join_mark, middle, bar_height, row_marks, rows_from, rows_height, window_span_text};
 
-use crate::bars::{MapBar, area_at, bar_colour};
+use crate::bars::{MapBar, bar_colour};
 use pico_board::{FLASH_BASE, Window};
 use std::alloc::{AllocError, Global};
-use svg_marks::{Class, Colour, Ends, LINE_HEIGHT, line_count, push_line, push_lines, push_plain};
+use svg_marks::{
+    Class, Colour, Ends, LINE_HEIGHT, area_at, line_count, push_line, push_lines, push_plain,
+};
 use text_words::hex_text;
 
 /// The most points that lie below one another: the words of so many lines fit no memory.

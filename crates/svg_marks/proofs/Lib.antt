@@ -5,3 +5,4 @@ pub mod WordLemmas
 pub mod PictureLemmas
 pub mod TextLemmas
 pub mod ClassLemmas
+pub mod RectLemmas

@@ -26,6 +26,10 @@ class_word Row = codes "row"
 class_word Join = codes "join"
 class_word Starts = codes "starts"
 
+-- the area of this place and size
+abbrev pub area_at : ℕ → ℕ → ℕ → ℕ → Area
+area_at x y width height = record { x = x; y = y; width = width; height = height }
+
 -- the six digits of a colour
 abbrev pub colour_word : Colour → List ℕ
 colour_word Ink = codes "1a1a1a"
@@ -192,3 +196,9 @@ pub record Picture : Type 0 where
 unfoldable pub picture_text : Picture → List ℕ
 picture_text p =
     front_text p.height p.title p.desc ++ (flat_map mark_text p.marks ++ codes "</svg>\n")
+
+-- the areas of the rectangles that are counted, in their order
+abbrev pub rects_of : List Mark → List Area
+rects_of [] = []
+rects_of (Rect class area colour title ∷ marks) = area ∷ rects_of marks
+rects_of (mark ∷ marks) = rects_of marks

@@ -15,7 +15,7 @@ mod writing;
 pub use breaks::line_count;
 pub use class::{Class, class_word, is_class};
 pub use lines::{LINE_HEIGHT, push_lines};
-pub use mark::{Area, Colour, Ends};
+pub use mark::{Area, Colour, Ends, area_at};
 pub use writing::{
     close_strip, open_column, open_strip, push_caption, push_end, push_front, push_label,
     push_line, push_plain, push_rect,

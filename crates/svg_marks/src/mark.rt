@@ -1,7 +1,7 @@
 //! Places and colours of marks.
 
 ghost use Rattle.std.specs.Prelude.{◌≡◌};
-ghost use Rattle.svg_marks.specs.Marks.{colour_word};
+ghost use Rattle.svg_marks.specs.Marks.{area_at, colour_word};
 
 /// Where a rectangle lies: in points of the picture, or within a strip in units of it.
 #[derive(Clone, Copy, Debug, PartialEq, Eq)]
@@ -14,6 +14,18 @@ pub struct Area {
     pub width: usize,
     /// The rectangle's height.
     pub height: usize,
+}
+
+/// The area of this place and size.
+pub fn area_at(x: usize, y: usize, width: usize, height: usize) -> Area
+    ensures { result ≡ area_at x y width height }
+{
+    Area {
+        x,
+        y,
+        width,
+        height,
+    }
 }
 
 /// The two ends of a line, in points of the picture.

@@ -9,7 +9,7 @@ use Rattle.svg_marks.specs.declared.class.Class.TheVariants.{Former, Finished, C
 use Rattle.svg_marks.specs.declared.mark.Area.{Area}
 use Rattle.svg_marks.specs.declared.mark.Colour.{Colour}
 use Rattle.svg_marks.specs.declared.mark.Colour.TheVariants.{Ink, Grey, Blue, Orange, Slate, Sky, White}
-use Rattle.svg_marks.specs.Marks.{Mark, Plain, Rect, Label, Caption, Strip, StripEnd, Picture, class_word}
+use Rattle.svg_marks.specs.Marks.{Mark, Plain, Rect, Label, Caption, Strip, StripEnd, Picture, area_at, class_word}
 use Rattle.svg_marks.specs.Reading.{is_class, words_by}
 use Rattle.svg_sweep.specs.declared.runs.Run.{Run}
 use Rattle.svg_sweep.specs.Runs.{chance_runs, class_count, runs}
@@ -51,9 +51,6 @@ class_colour Window = Ink
 class_colour Row = Ink
 class_colour Join = Ink
 class_colour Starts = Ink
-
-abbrev pub area_at : ℕ → ℕ → ℕ → ℕ → Area
-area_at x y width height = record { x = x; y = y; width = width; height = height }
 
 -- a run in a strip, one unit a step
 abbrev pub run_area : Run → Area

@@ -1,14 +1,7 @@
 -- Where the rectangles of a picture's rows lie in their strips.
 use Rattle.std.specs.Prelude.{◌≡◌, ℕ, ◌+◌, ◌-◌, ◌≤◌, List, [], ◌∷◌}
 use Rattle.svg_marks.specs.declared.mark.Area.{Area}
-use Rattle.svg_marks.specs.Marks.{Mark, Rect}
 use Rattle.svg_sweep.specs.declared.runs.Run.{Run}
-
--- the areas of the rectangles that are counted, in their order
-abbrev pub bars_of : List Mark → List Area
-bars_of [] = []
-bars_of (Rect class area colour title ∷ marks) = area ∷ bars_of marks
-bars_of (mark ∷ marks) = bars_of marks
 
 -- Areas that fill a strip of n units from the unit k on. Each begins where the one before ends, is
 -- as high as the strip, and is at least one unit wide. The last ends where the strip ends.

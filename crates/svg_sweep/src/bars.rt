@@ -3,11 +3,13 @@
 ghost use Rattle.std.specs.Prelude.{◌≡◌, ◌≤◌, ◌^◌, ◌+◌, ◌++◌, IfOk, OnOk, codes, length, map, slice_get, string_bytes};
 ghost use Rattle.std.specs.List.{flat_map};
 ghost use Rattle.svg_marks.specs.Marks.{mark_text};
-ghost use Rattle.svg_sweep.specs.Charts.{area_at, bar, class_colour, strip_frame, row_front, run_area, run_title, run_span_text};
+ghost use Rattle.svg_sweep.specs.Charts.{bar, class_colour, strip_frame, row_front, run_area, run_title, run_span_text};
 
 use crate::runs::Run;
 use std::alloc::{AllocError, Global};
-use svg_marks::{Area, Class, Colour, class_word, open_strip, push_label, push_plain, push_rect};
+use svg_marks::{
+    Area, Class, Colour, area_at, class_word, open_strip, push_label, push_plain, push_rect,
+};
 
 /// The colour of a class.
 pub fn class_colour(class: Class) -> Colour
@@ -26,18 +28,6 @@ pub fn class_colour(class: Class) -> Colour
         | Class::Row
         | Class::Join
         | Class::Starts => Colour::Ink,
-    }
-}
-
-/// A place.
-pub fn area_at(x: usize, y: usize, width: usize, height: usize) -> Area
-    ensures { result ≡ area_at x y width height }
-{
-    Area {
-        x,
-        y,
-        width,
-        height,
     }
 }
 

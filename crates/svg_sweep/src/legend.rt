@@ -5,9 +5,11 @@ ghost use Rattle.std.specs.List.{flat_map};
 ghost use Rattle.svg_marks.specs.Marks.{mark_text};
 ghost use Rattle.svg_sweep.specs.Charts.{end_row, kind_legend, legend_entry, legend_text, swatch};
 
-use crate::bars::{area_at, class_colour};
+use crate::bars::class_colour;
 use std::alloc::{AllocError, Global};
-use svg_marks::{Class, Colour, class_word, push_caption, push_label, push_plain, push_rect};
+use svg_marks::{
+    Class, Colour, area_at, class_word, push_caption, push_label, push_plain, push_rect,
+};
 
 /// Appends the result of the whole session.
 #[tactic(auto, unfolding(crate::specs::Charts::end_row))]

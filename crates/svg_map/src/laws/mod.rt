@@ -4,11 +4,11 @@ ghost use Rattle.std.specs.Prelude.{◌≡◌, ℕ, List, length, map, true};
 ghost use Rattle.std.specs.List.{flat_map, list_all};
 ghost use Rattle.svg_marks.specs.declared.class.Class.{Class};
 ghost use Rattle.svg_marks.specs.declared.class.Class.TheVariants.{Window, Row, Join};
-ghost use Rattle.svg_marks.specs.Marks.{class_text, escaped, picture_text};
+ghost use Rattle.svg_marks.specs.Marks.{class_text, escaped, picture_text, rects_of};
 ghost use Rattle.svg_marks.specs.Reading.{marks_in, times};
 ghost use Rattle.svg_marks.specs.Texts.{is_printed_text, is_written};
 ghost use Rattle.svg_map.specs.Maps.{MapBarView, counted_in_map, map_marks, map_picture};
-ghost use Rattle.svg_map.specs.Places.{FillFrom, LieFrom, rects_of};
+ghost use Rattle.svg_map.specs.Places.{FillFrom, LieFrom};
 
 /// The marks of a class that stand in the bytes of a picture are those of its windows, in their
 /// order, each with its words. The class, written as in `class="window"`, stands there as often,

@@ -3,7 +3,8 @@
 
 ghost use Rattle.std.specs.Prelude.{◌≡◌, [], ◌∷◌, codes};
 ghost use Rattle.svg_marks.specs.declared.class.Class.TheVariants.{Chance, Erase, Finished, Former, Legend, Program, Span};
-ghost use Rattle.svg_sweep.specs.Charts.{area_at, chart_words, counted_in_chart, spans_height};
+ghost use Rattle.svg_marks.specs.Marks.{area_at};
+ghost use Rattle.svg_sweep.specs.Charts.{chart_words, counted_in_chart, spans_height};
 ghost use Rattle.svg_sweep.specs.Examples.{no_steps, three_steps};
 ghost use Rattle.svg_sweep.specs.Places.{FillFrom};
 ghost use Rattle.svg_sweep.specs.Runs.{runs};

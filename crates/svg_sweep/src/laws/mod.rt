@@ -3,14 +3,14 @@
 ghost use Rattle.std.specs.Prelude.{◌≡◌, ℕ, List, length, map, true};
 ghost use Rattle.std.specs.List.{list_all};
 ghost use Rattle.svg_marks.specs.declared.class.Class.{Class};
-ghost use Rattle.svg_marks.specs.Marks.{class_text, escaped, picture_text};
+ghost use Rattle.svg_marks.specs.Marks.{class_text, escaped, picture_text, rects_of};
 ghost use Rattle.svg_marks.specs.Reading.{marks_in, times};
 ghost use Rattle.svg_marks.specs.Texts.{is_printed_text, is_written};
 ghost use Rattle.svg_sweep.specs.declared.runs.Run.{Run};
 ghost use Rattle.pico_board.specs.declared.Step.{Step};
 ghost use Rattle.svg_marks.specs.declared.mark.Area.{Area};
 ghost use Rattle.svg_sweep.specs.Charts.{Chart, class_of_step, counted_in_chart, kind_row, picture_of, result_row};
-ghost use Rattle.svg_sweep.specs.Places.{FillFrom, bars_of, run_length};
+ghost use Rattle.svg_sweep.specs.Places.{FillFrom, run_length};
 ghost use Rattle.svg_sweep.specs.Runs.{AreRuns, runs};
 
 /// The runs of steps are all of them in their order, each of one class, and neighbours differ.
@@ -48,13 +48,13 @@ pub fn pictures_are_ascii()
 /// right edge. Each is as wide as its run has steps. Units are whole, so nothing is rounded.
 pub fn bars_fill_their_strips()
     ensures results { (part : List ℕ) (top : ℕ) (classes : List Class)
-        → FillFrom (length classes) 0 (bars_of (result_row part top classes)) }
+        → FillFrom (length classes) 0 (rects_of (result_row part top classes)) }
     ensures kinds { (top : ℕ) (steps : List Step)
-        → FillFrom (length steps) 0 (bars_of (kind_row top steps)) }
+        → FillFrom (length steps) 0 (rects_of (kind_row top steps)) }
     ensures widths { (part : List ℕ) (top : ℕ) (classes : List Class)
-        → map (λ (area : Area). area.width) (bars_of (result_row part top classes))
+        → map (λ (area : Area). area.width) (rects_of (result_row part top classes))
         ≡ map run_length (runs classes) }
     ensures kind_widths { (top : ℕ) (steps : List Step)
-        → map (λ (area : Area). area.width) (bars_of (kind_row top steps))
+        → map (λ (area : Area). area.width) (rects_of (kind_row top steps))
         ≡ map run_length (runs (map class_of_step steps)) }
 {}
