@@ -1,5 +1,5 @@
 -- The words on families and on versions say what their tests say.
-use Rattle.std.proofs.Common.{◌≡◌, ◌⊎◌, ℕ, suc, ◌+◌, ◌-◌, ◌<◌, ◌≤◌, ◌&&◌, ◌||◌, ◌==◌, Bool, true, false, List, [], ◌∷◌, Contains, arith, refl, ap, ◌∙◌, inl, inr}
+use Rattle.std.proofs.Common.{◌≡◌, ◌⊎◌, ℕ, suc, ◌+◌, ◌-◌, ◌<◌, ◌≤◌, ◌&&◌, ◌||◌, ◌==◌, Bool, true, false, not, List, [], ◌∷◌, Contains, arith, refl, sym, ap, ◌∙◌, inl, inr}
 use Rattle.std.specs.Prelude.{nat_le, nat_lt}
 use Rattle.std.specs.Int.{bit_at}
 use Rattle.std.specs.List.{list_any}
@@ -8,10 +8,12 @@ use Rattle.std.proofs.lemmas.Bool.Decides.{nat_tests}
 use Rattle.std.proofs.lemmas.List.Folds.{list_any_at}
 use Rattle.block_codec.specs.declared.versions.Version.{Version}
 use Rattle.part_table.specs.declared.partition.Partition.{Partition}
+use Rattle.part_table.specs.declared.table.Table.{Table}
 use Rattle.part_table.specs.Families.{absolute_family, accepts, arm_ns_family, arm_s_family, data_family, has_family_bit, riscv_family, rp2040_family}
 use Rattle.part_table.specs.Fields.{has_bit}
 use Rattle.part_table.proofs.TestLemmas.{all_of_three}
 use Rattle.slot_choice.specs.Versions.{is_below}
+use Rattle.boot_rules.specs.Tables.{is_first_taken}
 use Rattle.boot_rules.specs.Targets.{is_executable}
 use Rattle.law_targets.specs.Loads.{Accepts, HasFamilyBit, IsExecutable, IsSlotFamily}
 use Rattle.law_targets.specs.Taking.{IsLower}
@@ -36,6 +38,28 @@ below-lower v w e = lower-of v.major w.major v.minor w.minor e
 
 pub lower-below : (v w : Version) → IsLower v w → is_below v w ≡ true
 lower-below v w lower = of-lower v.major w.major v.minor w.minor lower
+
+-- tables
+pub taken-words : (t u : Table) → is_first_taken t u ≡ true
+    → (t.singleton ≡ true) ⊎ (IsLower t.version u.version → ⊥)
+taken-words t u e = go t.singleton (is_below t.version u.version) refl refl e
+  where
+    go : (one lower : Bool) → t.singleton ≡ one → is_below t.version u.version ≡ lower → (one || not lower) ≡ true
+        → (t.singleton ≡ true) ⊎ (IsLower t.version u.version → ⊥)
+    go true lower singleton is taken = inl singleton
+    go false false singleton is taken =
+        inr (λ less. let no_ : true ≡ false = sym (lower-below t.version u.version less) ∙ is in cc)
+    go false true singleton is taken = cc
+
+pub words-taken : (t u : Table) → (t.singleton ≡ true) ⊎ (IsLower t.version u.version → ⊥)
+    → is_first_taken t u ≡ true
+words-taken t u (inl singleton) = ap (λ b. b || not (is_below t.version u.version)) singleton
+words-taken t u (inr never) = go t.singleton (is_below t.version u.version) refl
+  where
+    go : (one lower : Bool) → is_below t.version u.version ≡ lower → (one || not lower) ≡ true
+    go true lower is = refl
+    go false false is = refl
+    go false true is = absurd (never (below-lower t.version u.version is))
 
 -- extra families
 extra-contains : (xs : List ℕ) (f : ℕ) → list_any (λ extra. extra == f) xs ≡ true → Contains xs f

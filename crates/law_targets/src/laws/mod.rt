@@ -19,7 +19,7 @@ ghost use Rattle.slot_choice.specs.declared.unit.SlotUnit.{SlotUnit};
 ghost use Rattle.boot_rules.specs.Chosen.{IsBootMember};
 ghost use Rattle.boot_rules.specs.Picking.{taken_member};
 ghost use Rattle.boot_rules.specs.Starts.{table_of_content};
-ghost use Rattle.boot_rules.specs.Tables.{table_in};
+ghost use Rattle.boot_rules.specs.Tables.{is_first_taken, table_in};
 ghost use Rattle.boot_rules.specs.Targets.{target_of};
 ghost use Rattle.boot_rules.specs.declared.tables.Found.{Found};
 ghost use Rattle.law_targets.specs.HomeRules.{IsBootMemberTarget, IsInBootPair, IsInKeptPair};
@@ -29,12 +29,14 @@ ghost use Rattle.law_targets.specs.Taking.{IsLower, TakesFirst, TakesSecond};
 ghost use Rattle.law_targets.specs.TargetRules.{IsSlotTarget, IsTarget, flash_window, slot_size_in};
 
 /// A partition accepts a family by the family's bit or among its extra families. A version is
-/// lower by major, then minor. A normal boot would take A or B of a unit by what their windows
-/// hold.
+/// lower by major, then minor. Of two tables the first is taken where it is a singleton, or not of
+/// a lower version. A normal boot would take A or B of a unit by what their windows hold.
 pub fn words_say_what_tests_say()
     ensures families { (p : Partition) (family : ℕ)
         → (accepts p family ≡ true) ↔ Accepts p family }
     ensures versions { (v w : Version) → (is_below v w ≡ true) ↔ IsLower v w }
+    ensures tables { (t u : Table) → (is_first_taken t u ≡ true)
+        ↔ ((t.singleton ≡ true) ⊎ (IsLower t.version u.version → ⊥)) }
     ensures first { (c : Content) (cpu : Cpu) (u : SlotUnit)
         → (taken_member c cpu u ≡ Some A) ↔ TakesFirst c cpu u.a u.b }
     ensures second { (c : Content) (cpu : Cpu) (u : SlotUnit) (two : Window) → u.b ≡ Some two

@@ -3,7 +3,7 @@ use Rattle.std.proofs.lemmas.Option.{same_Some}
 use Rattle.slot_choice.specs.declared.unit.Member.TheVariants.{A, B}
 use Rattle.law_targets.specs.Taking.{TakesSecond}
 use Rattle.law_targets.proofs.TakenLemmas.{member-words, words-member}
-use Rattle.law_targets.proofs.WordLemmas.{accepts-words, below-lower, lower-below, words-accepts}
+use Rattle.law_targets.proofs.WordLemmas.{accepts-words, below-lower, lower-below, taken-words, words-accepts, words-taken}
 use Rattle.law_targets.proofs.laws.words_say_what_tests_say.Goals as goal
 
 pub returns-clause-families : goal.returns-clause-families
@@ -11,6 +11,9 @@ returns-clause-families c = λ p family. (accepts-words p family, words-accepts 
 
 pub returns-clause-versions : goal.returns-clause-versions
 returns-clause-versions c = λ v w. (below-lower v w, lower-below v w)
+
+pub returns-clause-tables : goal.returns-clause-tables
+returns-clause-tables c = λ t u. (taken-words t u, words-taken t u)
 
 pub returns-clause-first : goal.returns-clause-first
 returns-clause-first c = λ x cpu u. (member-words x cpu u A, words-member x cpu u A)
