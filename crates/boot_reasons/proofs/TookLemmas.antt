@@ -15,7 +15,7 @@ use Rattle.boot_reasons.specs.declared.looks.TakenImage.{TakenImage}
 use Rattle.boot_reasons.specs.declared.looks.UnitReason.{UnitReason}
 use Rattle.boot_reasons.specs.declared.looks.UnitReason.TheVariants.{Updated, Only, Version, Tie}
 use Rattle.boot_reasons.specs.Looks.{better_image, taken_image, taken_of, taken_of_pair}
-use Rattle.boot_reasons.specs.LookRules.{IsUpdatedOne, IsOnlyOne, IsGreaterOne, IsOneOfEqual, IsReason, IsTakenImage, IsTakenBy}
+use Rattle.boot_reasons.specs.LookRules.{IsUpdatedOne, IsOnlyOne, IsGreaterOne, IsFirstOfEqual, IsReason, IsTakenImage, IsTakenBy}
 
 true-false : (x : Bool) → x ≡ true → x ≡ false → ⊥
 true-false x e f = cc
@@ -101,7 +101,7 @@ module _ (Has : Member → Started → Type 0) (u : SlotUnit) (image : Member �
             (λ greater. true-false (is_below t.version s.version)
                 (subst (λ (y : Started). is_below y.version s.version ≡ true)
                 (sym (same B t greater.0 ib greater.1)) greater.2) h),
-            (t, second, total t.version s.version h l),
+            (t, second, total t.version s.version h l, refl),
           )
 
   none-updated : (m : Member) (s : Started) → Has m s → IsUpdatedOne None m → ⊥

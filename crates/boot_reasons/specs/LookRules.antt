@@ -31,7 +31,7 @@ pub record CountsIn (c : Content) (cpu : Cpu) (u : SlotUnit) (updated : Option M
 
 -- Has m s: s is the image of member m, and it counts. The reasons for taking the image s of member
 -- m: m is the updated member; no other image counts; both count and the version of s is greater;
--- both count and the versions are equal
+-- both count, the versions are equal, and m is A
 abbrev pub IsUpdatedOne : Option Member → Member → Type 0
 IsUpdatedOne updated m = IsTrue (is_member updated m)
 
@@ -42,8 +42,9 @@ abbrev pub IsGreaterOne : (Member → Started → Type 0) → Member → Started
 IsGreaterOne Has m s =
     (t : Started) × Has (other_of m) t × (is_below t.version s.version ≡ true)
 
-abbrev pub IsOneOfEqual : (Member → Started → Type 0) → Member → Started → Type 0
-IsOneOfEqual Has m s = (t : Started) × Has (other_of m) t × (t.version ≡ s.version)
+abbrev pub IsFirstOfEqual : (Member → Started → Type 0) → Member → Started → Type 0
+IsFirstOfEqual Has m s =
+    (t : Started) × Has (other_of m) t × (t.version ≡ s.version) × (m ≡ A)
 
 -- the reason is the first of these that holds
 abbrev pub IsReason : (Member → Started → Type 0) → Option Member → Member → Started → UnitReason
@@ -54,7 +55,7 @@ IsReason Has updated m s Version =
     (IsUpdatedOne updated m → ⊥) × (IsOnlyOne Has m → ⊥) × IsGreaterOne Has m s
 IsReason Has updated m s Tie =
     (IsUpdatedOne updated m → ⊥) × (IsOnlyOne Has m → ⊥) × (IsGreaterOne Has m s → ⊥)
-    × IsOneOfEqual Has m s
+    × IsFirstOfEqual Has m s
 
 -- the image s of a member counts, and it is taken: it is the updated member's; or the other
 -- member's image is neither the updated one's nor better

@@ -27,8 +27,8 @@ abbrev pub taken_image : Member → UnitReason → Started → Option TakenImage
 taken_image m because s = Some (record { member = m; window = s.window; because = because })
 
 -- why one of two images that count is taken, by their versions
-abbrev pub pair_reason : VersionOf → VersionOf → UnitReason
-pair_reason v w = if are_different v w then Version else Tie
+abbrev pub image_reason : VersionOf → VersionOf → UnitReason
+image_reason v w = if are_different v w then Version else Tie
 
 -- of the images of both members that of this one is taken
 abbrev pub taken_of_pair : Member → UnitReason → Started → Started → Option TakenImage
@@ -41,7 +41,7 @@ better_image None None = None
 better_image None (Some b) = taken_image B Only b
 better_image (Some a) None = taken_image A Only a
 better_image (Some a) (Some b) =
-    taken_of_pair (better_of a.version b.version) (pair_reason a.version b.version) a b
+    taken_of_pair (better_of a.version b.version) (image_reason a.version b.version) a b
 
 -- the updated member's image is taken where it counts
 abbrev pub taken_of : Option Member → Option Started → Option Started → Option TakenImage

@@ -13,8 +13,8 @@ abbrev pub in_force : ℕ → TableReason → Option TableInForce
 in_force slot because = Some (record { slot = slot; because = because })
 
 -- why one of the tables of both slots is taken
-abbrev pub pair_reason : Table → Table → TableReason
-pair_reason first second =
+abbrev pub table_reason : Table → Table → TableReason
+table_reason first second =
     if first.singleton then Singleton
     else (if are_different first.version second.version then Version else Tie)
 
@@ -23,7 +23,7 @@ table_in_force None None = None
 table_in_force None (Some second) = in_force 1 Only
 table_in_force (Some first) None = in_force 0 Only
 table_in_force (Some first) (Some second) =
-    in_force (if is_first_taken first second then 0 else 1) (pair_reason first second)
+    in_force (if is_first_taken first second then 0 else 1) (table_reason first second)
 
 -- the table of the flash, of those of its slots
 abbrev pub taken_table : Option TableInForce → Option Table → Option Table → Option Table

@@ -7,7 +7,7 @@ ghost use Rattle.sector_pool.specs.Pool.{HasFree};
 ghost use Rattle.image_check.specs.Digests.{Knows};
 ghost use Rattle.boot_rules.specs.Chosen.{is_member};
 ghost use Rattle.boot_rules.specs.Picking.{AreInside, IsInside};
-ghost use Rattle.boot_reasons.specs.Looks.{better_image, second_counted, first_choice, is_update, pair_reason, report_on, reported_choice, reports_of, second_image, reported_image, taken_image, taken_of};
+ghost use Rattle.boot_reasons.specs.Looks.{better_image, second_counted, first_choice, is_update, image_reason, report_on, reported_choice, reports_of, second_image, reported_image, taken_image, taken_of};
 ghost use Rattle.boot_reasons.specs.Reasons.{results_in};
 
 use crate::looks::{TakenImage, UnitReason, UnitReport};
@@ -41,8 +41,8 @@ fn taken_image(member: Member, because: UnitReason, image: &Started) -> Option<T
 }
 
 /// Why one of two images that count is taken, by their versions.
-fn pair_reason(first: Version, second: Version) -> UnitReason
-    ensures { result ≡ pair_reason first second }
+fn image_reason(first: Version, second: Version) -> UnitReason
+    ensures { result ≡ image_reason first second }
 {
     if are_different(first, second) {
         UnitReason::Version
@@ -55,7 +55,7 @@ fn pair_reason(first: Version, second: Version) -> UnitReason
 fn better_pair(first: &Started, second: &Started) -> Option<TakenImage>
     ensures { result ≡ better_image (Some first.now) (Some second.now) }
 {
-    let because = pair_reason(first.version, second.version);
+    let because = image_reason(first.version, second.version);
     match better_of(first.version, second.version) {
         Member::A => taken_image(Member::A, because, first),
         Member::B => taken_image(Member::B, because, second),

@@ -2,7 +2,7 @@
 
 ghost use Rattle.std.specs.Prelude.{◌≡◌, option_map};
 ghost use Rattle.std.specs.Result.{result_ok};
-ghost use Rattle.boot_reasons.specs.Slots.{taken_table, in_force, pair_reason, table_in_force};
+ghost use Rattle.boot_reasons.specs.Slots.{taken_table, in_force, table_reason, table_in_force};
 
 use crate::slots::{TableInForce, TableReason};
 use boot_rules::{SlotFault, is_first_taken};
@@ -17,8 +17,8 @@ fn in_force(slot: u32, because: TableReason) -> Option<TableInForce>
 }
 
 /// Why one of the tables of both slots is taken.
-fn pair_reason(first: &Table, second: &Table) -> TableReason
-    ensures { result ≡ pair_reason first.now second.now }
+fn table_reason(first: &Table, second: &Table) -> TableReason
+    ensures { result ≡ table_reason first.now second.now }
 {
     if first.singleton {
         return TableReason::Singleton;
@@ -35,7 +35,7 @@ fn pair_in_force(first: &Table, second: &Table) -> Option<TableInForce>
     ensures { result ≡ table_in_force (Some first.now) (Some second.now) }
 {
     let slot = if is_first_taken(first, second) { 0 } else { 1 };
-    in_force(slot, pair_reason(first, second))
+    in_force(slot, table_reason(first, second))
 }
 
 /// The slot whose table is that of the flash, by what the slots have, and why it is this one. None

@@ -29,7 +29,7 @@ use Rattle.boot_rules.specs.Chosen.{Chosen}
 use Rattle.boot_rules.specs.Tables.{table_of_content}
 use Rattle.boot_reasons.specs.declared.looks.UnitReport.{UnitReport}
 use Rattle.boot_reasons.specs.declared.looks.UnitReason.TheVariants.{Version as Greater, Tie as IsTied}
-use Rattle.boot_reasons.specs.Looks.{better_image, pair_reason, report_on, reports_of, taken_image, taken_of, taken_of_pair}
+use Rattle.boot_reasons.specs.Looks.{better_image, image_reason, report_on, reports_of, taken_image, taken_of, taken_of_pair}
 use Rattle.boot_reasons.specs.Reasons.{reasons_in, reports_in, results_in}
 use Rattle.boot_reasons.proofs.LookLemmas.{choice-of-unit, second-counted, takes-choice}
 use Rattle.slot_caveats.specs.declared.caveat.Caveat.{Caveat}
@@ -96,7 +96,7 @@ module _ (c : Content) (cpu : Cpu) where
       tied : (s t : Started) → is_below s.version t.version ≡ false → is_below t.version s.version ≡ false
           → better_image (Some s) (Some t) ≡ taken_image A IsTied s
       tied s t l h =
-          ap (λ m. taken_of_pair m (pair_reason s.version t.version) s t) ((first_of_two s.version t.version).1 l)
+          ap (λ m. taken_of_pair m (image_reason s.version t.version) s t) ((first_of_two s.version t.version).1 l)
           ∙ ap (λ b. taken_image A (if b then Greater else IsTied) s)
           (ap (λ b. b || is_below t.version s.version) l ∙ h)
 
