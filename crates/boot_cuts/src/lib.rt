@@ -1,11 +1,10 @@
 //! Every cut of any script: what the next normal boot makes of a loss of power before and within
 //! each step that a script completes.
 //!
-//! `specs/Traces` says which steps those are and what is noted of each event, `specs/Doers` who
-//! does each step, `specs/Contents` what a cut leaves, `specs/Classes` what class it has,
-//! `specs/Tears` which windows the script leaves torn, and `specs/Runs` how cuts are told together.
-//! What the events of a script do stands in `boot_machine`, what the loss of power leaves in
-//! `pico_board`, and the decision in `boot_rules`.
+//! `boot_tape` says which steps those are, and who does each. `specs/Contents` says what a cut
+//! leaves, `specs/Classes` what class it has, `specs/Tears` which windows the script leaves torn,
+//! and `specs/Runs` how cuts are told together. What the events of a script do stands in
+//! `boot_machine`, what the loss of power leaves in `pico_board`, and the decision in `boot_rules`.
 #![tactic(auto)]
 
 mod answers;

@@ -147,7 +147,8 @@ left-then old mid new w rest number whole first second =
       numbers = next.numbers ∙ (ap (λ ns. ns ++ replicate (done_count r.moves) number) first.numbers
           ∙ (append_assoc old.numbers.items (replicate (done_count w.moves) number)
           (replicate (done_count r.moves) number)
-          ∙ ap (λ ns. old.numbers.items ++ ns) (replicate-append-replicate (done_count w.moves) (done_count r.moves) number
+          ∙ ap (λ ns. old.numbers.items ++ ns) (replicate-append-replicate (done_count w.moves)
+          (done_count r.moves) number
           ∙ ap (λ k. replicate k number) (sym (count-append w.moves r.moves)))));
       moves = next.moves ∙ (ap (λ ms. ms ++ r.moves) first.moves
           ∙ append_assoc (moves_from old.moves.items) w.moves r.moves);
@@ -207,7 +208,8 @@ traced-left zero within pattern (step ∷ steps) c = refl
 traced-left (suc n) within pattern (step ∷ steps) c =
     let some : (suc n == 0) ≡ false = grind (arith, nat_tests) in
     let less : suc n - 1 ≡ n = omega arith in
-    ap (λ (b : Bool). traced_by c (if b then record { moves = Torn step within pattern ∷ []; whole = false; armed = None }
+    ap (λ (b : Bool). traced_by c
+    (if b then record { moves = Torn step within pattern ∷ []; whole = false; armed = None }
     else move_first (Done step) (cut_moves (Some (cut_with (suc n - 1) within pattern)) steps)).moves) some
     ∙ ap (λ ts. record { before = c; step = step } ∷ ts)
     (ap (λ k. traced_by (after c step) (cut_moves (Some (cut_with k within pattern)) steps).moves) less
@@ -227,7 +229,8 @@ one-more b n k = ap (λ x. b || x) (elim (cases_lt n k) [
 pub traced-steps : (steps : List Step) (cut : Option Cut) (c : Content)
     → traced_by c (cut_moves cut steps).moves ≡ traced_from c (completed cut steps)
 traced-steps [] None c = refl
-traced-steps (step ∷ steps) None c = ap (λ ts. record { before = c; step = step } ∷ ts) (traced-steps steps None (after c step))
+traced-steps (step ∷ steps) None c =
+    ap (λ ts. record { before = c; step = step } ∷ ts) (traced-steps steps None (after c step))
 traced-steps steps (Some cut) c = traced-left cut.left cut.within cut.pattern steps c
 
 pub length-traced : (c : Content) (steps : List Step) → length (traced_from c steps) ≡ length steps
@@ -323,7 +326,8 @@ first-whole (x ∷ xs) ys (Some cut) = go (cut.left == 0) (first-whole xs ys (So
 
     go : (b : Bool)
         → ((cut_moves (Some (nearer cut)) (xs ++ ys)).whole
-        || nat_lt (length (cut_moves (Some (nearer cut)) xs).moves) (length (cut_moves (Some (nearer cut)) (xs ++ ys)).moves))
+        || nat_lt (length (cut_moves (Some (nearer cut)) xs).moves)
+        (length (cut_moves (Some (nearer cut)) (xs ++ ys)).moves))
         ≡ (cut_moves (Some (nearer cut)) xs).whole
         → ((all b (xs ++ ys)).whole || nat_lt (length (all b xs).moves) (length (all b (xs ++ ys)).moves))
         ≡ (all b xs).whole
@@ -350,13 +354,15 @@ whole-is (step ∷ steps) (Some cut) c whole =
         else move_first (Done step) (cut_moves (Some (nearer cut)) steps)).whole ≡ true
         → ((cut_moves (Some (nearer cut)) steps).whole ≡ true
         → IsWhole (after c step) steps (cut_moves (Some (nearer cut)) steps))
-        → IsWhole c (step ∷ steps) (if b then record { moves = Torn step cut.within cut.pattern ∷ []; whole = false; armed = None }
+        → IsWhole c (step ∷ steps)
+        (if b then record { moves = Torn step cut.within cut.pattern ∷ []; whole = false; armed = None }
         else move_first (Done step) (cut_moves (Some (nearer cut)) steps))
     go true whole more = cc
     go false whole more =
         let rest = more whole in let n = rest.count in record { count = omega (arith, n); content = rest.content }
 
-pub completed-more : (cut : Option Cut) (xs ys : List Step) → length (completed cut xs) ≤ length (completed cut (xs ++ ys))
+pub completed-more : (cut : Option Cut) (xs ys : List Step)
+    → length (completed cut xs) ≤ length (completed cut (xs ++ ys))
 completed-more None xs ys = let long = length-append xs ys in omega (arith, long)
 completed-more (Some cut) xs ys =
     let long = length-append xs ys in
@@ -380,12 +386,14 @@ pub one-count : (cut : Option Cut) (step : Step) → done_count (cut_moves cut (
 one-count None step = omega arith
 one-count (Some cut) step = go (cut.left == 0)
   where
-    go : (b : Bool) → done_count (if b then record { moves = Torn step cut.within cut.pattern ∷ []; whole = false; armed = None }
+    go : (b : Bool)
+        → done_count (if b then record { moves = Torn step cut.within cut.pattern ∷ []; whole = false; armed = None }
         else move_first (Done step) (cut_moves (Some (nearer cut)) [])).moves ≤ 1
     go true = omega arith
     go false = omega arith
 
-pub loop-lost : (now next : Tape) (k : ℕ) (other : Step) (steps : List Step) (number : ℕ) (whole : Bool) → k < length steps
+pub loop-lost : (now next : Tape) (k : ℕ) (other : Step) (steps : List Step) (number : ℕ) (whole : Bool)
+    → k < length steps
     → IsLeftBy now (cut_moves (told_of now) (get_or steps k other ∷ [])) number whole next → whole ≡ false
     → IsLeftBy now (cut_moves (told_of now) (drop k steps)) number false next
 loop-lost now next k other steps number whole lt is fell =
@@ -396,7 +404,8 @@ loop-lost now next k other steps number whole lt is fell =
     (left-lost now next (cut_moves (told_of now) (step ∷ [])) (λ a. cut_moves a rest) number
     (subst (λ b. IsLeftBy now (cut_moves (told_of now) (step ∷ [])) number b next) fell is))
 
-pub loop-more : (now next new : Tape) (k : ℕ) (other : Step) (steps : List Step) (number : ℕ) (whole w : Bool) → k < length steps
+pub loop-more : (now next new : Tape) (k : ℕ) (other : Step) (steps : List Step) (number : ℕ) (whole w : Bool)
+    → k < length steps
     → IsLeftBy now (cut_moves (told_of now) (get_or steps k other ∷ [])) number whole next → whole ≡ true
     → IsLeftBy next (cut_moves (told_of next) (drop (k + 1) steps)) number w new
     → IsLeftBy now (cut_moves (told_of now) (drop k steps)) number w new

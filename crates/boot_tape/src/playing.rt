@@ -32,8 +32,8 @@ use sector_pool::SectorPool;
 use std::alloc::{AllocError, Global};
 use uf2_place::Download;
 
-/// A machine without power, over a copy of a board on which these moves are done. No cut is ever
-/// armed on it.
+/// A machine without power, over a copy of the board. These moves are done on the copy, and no cut
+/// is ever armed on it.
 fn machine_of(
     alloc: Global,
     board: &MemBoard,
@@ -212,8 +212,8 @@ fn play<'a>(
     Ok(whole)
 }
 
-/// The machine made anew, without power, over a copy of the board before the script on which all
-/// its moves are done. The old one is gone before the copy is made.
+/// The machine made anew, without power, over a copy of the board before the script, on which the
+/// moves so far are done. The old machine is gone before the copy is made.
 fn anew(
     alloc: Global,
     start: &MemBoard,
@@ -278,9 +278,8 @@ fn board_of(machine: Machine<Recorder<MemBoard>>) -> MemBoard
     board
 }
 
-/// Plays a script on a board, on a machine that starts without power. The answer is what it does
-/// to the board; none where more than 262,144 steps complete. The content is held at most twice:
-/// by this board and by the machine's, which becomes that of the answer.
+/// Plays a script on a copy of a board, on a machine that starts without power. The answer is what
+/// it does to the board; none where more than 262,144 steps complete.
 pub fn trace_on<'a>(
     alloc: Global,
     board: &MemBoard,
@@ -302,5 +301,5 @@ pub fn trace_on<'a>(
         }
         number += 1;
     }
-    Ok(Some(tape.end(board_of(machine))))
+    Ok(Some(tape.into_trace(board_of(machine))))
 }

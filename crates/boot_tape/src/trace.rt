@@ -1,4 +1,4 @@
-//! What a script does to a board, as it is told step by step, and what it has done in the end.
+//! What a script does to a board, step by step.
 
 ghost use Rattle.std.specs.Prelude.{◌≡◌, ℕ, ◌+◌, ◌-◌, ◌^◌, ◌<◌, ◌==◌, ◌∷◌, ◌++◌, All, IfOk, OnOk, if◌then◌else◌, [], false, true, None, Some, length, min, option_map};
 ghost use Rattle.pico_board.specs.Cuts.{nearer as one_nearer};
@@ -33,8 +33,6 @@ pub struct Trace<'a> {
     pub moves: Vec<Move<'a>>,
     /// The number of the event that did each step that completed.
     pub numbers: Vec<u32>,
-    /// How many steps have completed.
-    pub done: usize,
     /// What is noted of each event.
     pub notes: Vec<Note>,
 }
@@ -89,18 +87,16 @@ impl<'a> Tape<'a> {
     }
 
     /// The trace of a script that leaves this board.
-    pub(crate) fn end(self, board: MemBoard) -> Trace<'a>
+    pub(crate) fn into_trace(self, board: MemBoard) -> Trace<'a>
         ensures board { result.board ≡ board }
         ensures moves { result.moves ≡ self.entry.moves }
         ensures numbers { result.numbers ≡ self.entry.numbers }
-        ensures done { result.done ≡ self.entry.done }
         ensures notes { result.notes ≡ self.entry.notes }
     {
         Trace {
             board,
             moves: self.moves,
             numbers: self.numbers,
-            done: self.done,
             notes: self.notes,
         }
     }

@@ -9,9 +9,11 @@ use Rattle.boot_tape.proofs.playing.play.Goals as goal
 pub slice_bounds-take_steps-count : goal.slice_bounds-take_steps-count
 slice_bounds-take_steps-count c =
     let play = c.requires.play.3 in
-    let done = done-by c.args.machine.now c.step.new.machine c.args.tape.now play.mid (event_from c.args.event.now) c.in_ok-came.came
+    let done = done-by c.args.machine.now c.step.new.machine c.args.tape.now play.mid (event_from c.args.event.now)
+    c.in_ok-came.came
     c.requires.uncut play.followed c.requires.short c.in_ok-came.ensures in
-    let within = former-within c.args.machine.now c.step.new.machine play.mid (effect play.mid (event_from c.args.event.now))
+    let within = former-within c.args.machine.now c.step.new.machine play.mid
+    (effect play.mid (event_from c.args.event.now))
     c.args.tape.now play.followed c.requires.short done in
     let long = ap (λ (xs : List Step). length xs)
     (c.deref.ensures.value ∙ ap (λ t. t.steps.items) c.board-2.ensures) in
@@ -22,9 +24,11 @@ slice_bounds-take_steps-count c =
 pub slice_bounds-take_steps-start : goal.slice_bounds-take_steps-start
 slice_bounds-take_steps-start c =
     let play = c.requires.play.3 in
-    let done = done-by c.args.machine.now c.step.new.machine c.args.tape.now play.mid (event_from c.args.event.now) c.in_ok-came.came
+    let done = done-by c.args.machine.now c.step.new.machine c.args.tape.now play.mid (event_from c.args.event.now)
+    c.in_ok-came.came
     c.requires.uncut play.followed c.requires.short c.in_ok-came.ensures in
-    let within = former-within c.args.machine.now c.step.new.machine play.mid (effect play.mid (event_from c.args.event.now))
+    let within = former-within c.args.machine.now c.step.new.machine play.mid
+    (effect play.mid (event_from c.args.event.now))
     c.args.tape.now play.followed c.requires.short done in
     let long = ap (λ (xs : List Step). length xs)
     (c.deref.ensures.value ∙ ap (λ t. t.steps.items) c.board-2.ensures) in
@@ -36,10 +40,12 @@ pub returns-clause-ready : goal.returns-clause-ready
 returns-clause-ready c = λ m all left play is.
     let n = length m.content.flash in
     let e = effect play.mid (event_from c.args.event.now) in
-    let done = done-by c.args.machine.now c.step.new.machine c.args.tape.now play.mid (event_from c.args.event.now) c.in_ok-came.came
+    let done = done-by c.args.machine.now c.step.new.machine c.args.tape.now play.mid (event_from c.args.event.now)
+    c.in_ok-came.came
     c.requires.uncut play.followed c.requires.short c.in_ok-came.ensures in
     c.in_ok-note.ensures.ready n (c.in_ok-whole.ensures.ready n is
-    (fresh-in c.args.machine.now c.step.new.machine play.mid e n (length c.as_slice-former.result.now) c.deref.result.now done
+    (fresh-in c.args.machine.now c.step.new.machine play.mid e n (length c.as_slice-former.result.now)
+    c.deref.result.now done
     (c.deref.ensures.value ∙ ap (λ t. t.steps.items) c.board-2.ensures)
     (long-as c.args.tape.now m play.mid all left c.args.number play.to)))
 

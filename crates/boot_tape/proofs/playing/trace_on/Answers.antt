@@ -51,7 +51,8 @@ loop-event-preserved c =
       ready = c.in_ok-machine-2.ensures.ready;
       short = c.if-tape-gt-STEP_LIMIT.false;
       play = (c.in_ok-machine-2.ensures.played events c.next.new.self
-          (subst (λ es. IsPlay c.loop-event.machine c.loop-event.tape m events es c.loop-event.number) c.in-Some.ensures.steps.0
+          (subst (λ es. IsPlay c.loop-event.machine c.loop-event.tape m events es c.loop-event.number)
+          c.in-Some.ensures.steps.0
           c.loop-event.invariant.play)).1 c.if-tape-gt-STEP_LIMIT.false;
     }
 
@@ -60,15 +61,16 @@ returns-then-tape-gt-STEP_LIMIT c =
     let events = script_events c.args.script.now.bytes.now in
     let m = powerless (state_of c.args.board.now).content c.args.cpu in
     (c.in_ok-machine-2.ensures.played events c.next.new.self
-    (subst (λ es. IsPlay c.loop-event.machine c.loop-event.tape m events es c.loop-event.number) c.in-Some.ensures.steps.0
+    (subst (λ es. IsPlay c.loop-event.machine c.loop-event.tape m events es c.loop-event.number)
+    c.in-Some.ensures.steps.0
     c.loop-event.invariant.play)).0 c.if-tape-gt-STEP_LIMIT.true
 
 pub returns : goal.returns
 returns c =
     let content = (state_of c.args.board.now).content in
     let events = script_events c.args.script.now.bytes.now in
-    let ended = c.end.ensures in
-    traced-end c.loop-event.machine c.loop-event.tape c.board_of.result c.end.result content c.args.cpu events
+    let ended = c.into_trace.ensures in
+    traced-end c.loop-event.machine c.loop-event.tape c.board_of.result c.into_trace.result content c.args.cpu events
     c.loop-event.event-iterator c.loop-event.number c.in-None.ensures.steps.0 c.loop-event.invariant.ready
     c.loop-event.invariant.short c.loop-event.invariant.play c.board_of.ensures
     (record { board_ = ended.board; moves = ended.moves; numbers = ended.numbers; notes = ended.notes })

@@ -29,8 +29,8 @@ returns c =
     let content = (state_of c.args.board).content in
     let cpu = c.args.cpu in
     let events = script_events c.args.script.bytes.now in
-    let many = subst (λ o. MatchOption o (IsTracedTooLong content cpu events) (IsTraceOf content cpu events)) c.in-None.is
-    c.in_ok-trace.ensures in
+    let many = subst (λ o. MatchOption o (IsTracedTooLong content cpu events) (IsTraceOf content cpu events))
+    c.in-None.is c.in_ok-trace.ensures in
     subst (λ (w : Work). IfOk c.refusal.result (λ answer. answer_from answer ≡ worked w))
     (sym (long-work content cpu c.args.name.now c.args.script.bytes.now c.args.pattern.bytes.now
     (require_from c.args.ask.now) many))
