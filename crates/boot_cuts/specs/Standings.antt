@@ -1,7 +1,6 @@
 -- What is known of the images that stand in windows of a content.
-use Rattle.std.specs.Prelude.{◌≡◌, ℕ, ◌+◌, ◌≤◌, false, All, List}
+use Rattle.std.specs.Prelude.{◌≡◌, false, All, List}
 use Rattle.pico_board.specs.declared.boot.Cpu.{Cpu}
-use Rattle.pico_board.specs.declared.window.Window.{Window}
 use Rattle.pico_board.specs.Content.{Content}
 use Rattle.boot_rules.specs.Choosing.{images_in}
 use Rattle.boot_cuts.specs.declared.standing.Standing.{Standing}
@@ -12,7 +11,3 @@ IsStanding c cpu standing = standing.image ≡ images_in c cpu standing.window f
 
 abbrev pub AreStanding : Content → Cpu → List Standing → Type 0
 AreStanding c cpu known = All (IsStanding c cpu) known
-
--- the window lies inside a flash of n bytes
-abbrev pub LiesInside : ℕ → Window → Type 0
-LiesInside n w = w.start + w.len ≤ n

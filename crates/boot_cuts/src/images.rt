@@ -7,9 +7,9 @@ ghost use Rattle.sector_pool.specs.Keeping.{KeepsOut};
 ghost use Rattle.sector_pool.specs.Pool.{HasFree};
 ghost use Rattle.image_check.specs.Digests.{Knows};
 ghost use Rattle.boot_rules.specs.Choosing.{images_in};
-ghost use Rattle.boot_rules.specs.Picking.{AreInside};
+ghost use Rattle.boot_rules.specs.Picking.{AreInside, IsInside};
 ghost use Rattle.boot_cuts.specs.Classing.{is_image, stands_in};
-ghost use Rattle.boot_cuts.specs.Standings.{AreStanding, IsStanding, LiesInside};
+ghost use Rattle.boot_cuts.specs.Standings.{AreStanding, IsStanding};
 
 use crate::standing::Standing;
 use boot_rules::boot_units_in;
@@ -31,7 +31,7 @@ fn standing_in(
     requires power { IsTrue (state_of board.now).powered }
     requires free { HasFree pool.old }
     requires knows { Knows digests.old (state_of board.now).content }
-    requires inside { LiesInside (length (state_of board.now).content.flash) window }
+    requires inside { IsInside (length (state_of board.now).content.flash) window }
     ensures standing { IsStanding (state_of board.now).content cpu result }
     ensures window { result.window ≡ window }
     ensures knows { Knows digests.new (state_of board.now).content }
@@ -113,7 +113,7 @@ pub fn stands_in(
     requires power { IsTrue (state_of board.now).powered }
     requires free { HasFree pool.old }
     requires known { AreStanding (state_of board.now).content cpu known.now }
-    requires inside { LiesInside (length (state_of board.now).content.flash) image.now.window }
+    requires inside { IsInside (length (state_of board.now).content.flash) image.now.window }
     ensures exact { result ≡ stands_in cpu (state_of board.now).content image.now }
     ensures kept { KeepsOut pool.old pool.new }
 {

@@ -12,7 +12,8 @@ ghost use Rattle.boot_rules.specs.Chosen.{Chosen};
 ghost use Rattle.boot_cuts.specs.Answers.{answer_of};
 ghost use Rattle.boot_cuts.specs.Classing.{class_by, has_image_of, is_as_on, is_mended, is_tail, start_class, stood_in};
 ghost use Rattle.boot_cuts.specs.Judging.{AreEnds};
-ghost use Rattle.boot_cuts.specs.Standings.{AreStanding, LiesInside};
+ghost use Rattle.boot_cuts.specs.Standings.{AreStanding};
+ghost use Rattle.boot_rules.specs.Picking.{IsInside};
 ghost use Rattle.boot_cuts.specs.Tears.{is_left_torn};
 
 use crate::answers::Answer;
@@ -60,7 +61,7 @@ fn has_bytes_of(base: &MemBoard, board: &MemBoard, cpu: Cpu, image: &Started) ->
     requires base { IsTrue (state_of base.now).powered }
     requires long { length (state_of board.now).content.flash
         ≡ length (state_of base.now).content.flash }
-    requires inside { LiesInside (length (state_of base.now).content.flash) image.now.window }
+    requires inside { IsInside (length (state_of base.now).content.flash) image.now.window }
     requires held { HoldsImage cpu (window_bytes (state_of base.now).content image.now.window)
         image.now }
     ensures { result ≡ is_same_image cpu
@@ -126,7 +127,7 @@ fn stood_in(
     requires known { AreStanding (state_of base.now).content cpu known.now }
     requires long { length (state_of board.now).content.flash
         ≡ length (state_of base.now).content.flash }
-    requires inside { LiesInside (length (state_of base.now).content.flash) image.now.window }
+    requires inside { IsInside (length (state_of base.now).content.flash) image.now.window }
     ensures exact { result ≡ stood_in cpu (state_of base.now).content
         (state_of board.now).content image.now }
     ensures kept { KeepsOut pool.old pool.new }
@@ -153,7 +154,7 @@ fn is_tail(
     requires known { AreStanding (state_of base.now).content cpu known.now }
     requires long { length (state_of board.now).content.flash
         ≡ length (state_of base.now).content.flash }
-    requires inside { LiesInside (length (state_of base.now).content.flash) image.now.window }
+    requires inside { IsInside (length (state_of base.now).content.flash) image.now.window }
     ensures exact { result ≡ is_tail cpu (state_of base.now).content
         (state_of board.now).content image.now }
     ensures kept { KeepsOut pool.old pool.new }
@@ -175,7 +176,7 @@ fn start_class(board: &MemBoard, pool: &mut SectorPool, ends: &Ends<'_>, image: 
     requires power { IsTrue (state_of board.now).powered }
     requires free { HasFree pool.old }
     requires ends { AreEnds ends.now (length (state_of board.now).content.flash) }
-    requires inside { LiesInside (length (state_of board.now).content.flash) image.now.window }
+    requires inside { IsInside (length (state_of board.now).content.flash) image.now.window }
     ensures exact { result ≡ start_class ends.now.ends.cpu (state_of ends.now.start.now).content
         (state_of ends.now.ends.board.now).content
         (is_left_torn ends.now.torn.now image.now.window) (state_of board.now).content image.now }

@@ -27,7 +27,7 @@ use Rattle.boot_session.specs.Slots.{is_confined, session_slot}
 use Rattle.boot_session.proofs.ConfinedLaws.{confined-session, table-stays}
 use Rattle.boot_session.proofs.GatedLaws.{gated-decision}
 use Rattle.boot_session.proofs.SlotLemmas.{is-confined, one-slot, slot-found, slot-is}
-use Rattle.boot_sweep.specs.Refusals.{StartsIn, gains_table, is_start_in, ungated_in}
+use Rattle.boot_sweep.specs.Refusals.{KeepsToSlot, StartsIn, gains_table, is_start_in, ungated_in}
 use Rattle.boot_sweep.proofs.GateLemmas.{gated-none, none-gated}
 use Rattle.boot_sweep.proofs.KnownLemmas.{all-confined}
 use Rattle.boot_sweep.proofs.RefusalCaseLemmas.{in-start}
@@ -36,7 +36,7 @@ use Rattle.check_laws.specs.declared.found.SessionFound.TheVariants as found
 use Rattle.check_laws.specs.declared.found.Reason.TheVariants as reasons
 use Rattle.check_laws.specs.Hosts.{first_content}
 use Rattle.check_laws.specs.Kept.{held_law, slot_law}
-use Rattle.check_laws.specs.SessionLaws.{Holds, IsSessionLaw, IsStepsLaw, IsWritten, KeepsTo, host_steps}
+use Rattle.check_laws.specs.SessionLaws.{Holds, IsSessionLaw, IsStepsLaw, IsWritten, host_steps}
 use Rattle.check_laws.specs.Staged.{Staged}
 
 all-list : (w : Window) (steps : List Step) → Confined steps w → list_all (is_confined w) steps ≡ true
@@ -83,16 +83,16 @@ outside c cpu w none = go (decision_in c cpu Normal) refl
 
 -- the window that the steps keep to
 pub keeps-is : (c : Content) (cpu : Cpu) (steps : List Step) (w : Window) → session_slot c cpu steps ≡ Some w
-    → list_all (is_confined w) steps ≡ true → KeepsTo c cpu steps w
+    → list_all (is_confined w) steps ≡ true → KeepsToSlot c cpu steps w
 keeps-is c cpu steps w at all = record { slot = slot-found c cpu steps w at; confined = all-confined w steps all }
 
 pub none-kept : (c : Content) (cpu : Cpu) (steps : List Step) (right : IsContent c) → session_slot c cpu steps ≡ None
-    → (w : Window) → KeepsTo c cpu steps w → ⊥
+    → (w : Window) → KeepsToSlot c cpu steps w → ⊥
 none-kept c cpu steps right at w k = let e : None ≡ Some w = sym at ∙ slot-is c cpu steps w right k.slot in cc
 
 pub not-kept : (c : Content) (cpu : Cpu) (steps : List Step) (v : Window) (right : IsContent c)
     → session_slot c cpu steps ≡ Some v → list_all (is_confined v) steps ≡ false
-    → (w : Window) → KeepsTo c cpu steps w → ⊥
+    → (w : Window) → KeepsToSlot c cpu steps w → ⊥
 not-kept c cpu steps v right at some w k =
     let same : v ≡ w = same_Some v w (sym at ∙ slot-is c cpu steps w right k.slot) in
     false-true (list_all (is_confined v) steps) some
@@ -100,7 +100,7 @@ not-kept c cpu steps v right at some w k =
 
 -- a table that was there stays; where there was none, there may be one
 pub table-kept : (c : Content) (cpu : Cpu) (steps : List Step) (w : Window) (o : Option Found) → IsContent c
-    → KeepsTo c cpu steps w → table_in c ≡ o → (o ≡ None → table_in (after_all c steps) ≡ None)
+    → KeepsToSlot c cpu steps w → table_in c ≡ o → (o ≡ None → table_in (after_all c steps) ≡ None)
     → table_in (after_all c steps) ≡ table_in c
 table-kept c cpu steps w None right k is none = none refl ∙ sym is
 table-kept c cpu steps w (Some found) right k is none =
@@ -108,7 +108,7 @@ table-kept c cpu steps w (Some found) right k is none =
     (confined-after_all c w steps k.confined) found is ∙ sym is
 
 module _ (c : Content) (cpu : Cpu) (steps : List Step) (right : IsContent c) where
-  one-window : (w v : Window) → KeepsTo c cpu steps w → KeepsTo c cpu steps v → w ≡ v
+  one-window : (w v : Window) → KeepsToSlot c cpu steps w → KeepsToSlot c cpu steps v → w ≡ v
   one-window w v a b = one-slot c cpu steps w v right a.slot b.slot
 
   -- there is no other law of the steps

@@ -4,13 +4,12 @@ use Rattle.pico_board.specs.declared.Step.{Step}
 use Rattle.pico_board.specs.declared.boot.Cpu.{Cpu}
 use Rattle.pico_board.specs.declared.window.Window.{Window}
 use Rattle.pico_board.specs.Content.{Content}
-use Rattle.pico_board.specs.Sessions.{Confined, Gated}
+use Rattle.pico_board.specs.Sessions.{Gated}
 use Rattle.pico_board.specs.Steps.{after_all}
 use Rattle.boot_rules.specs.Tables.{table_in}
 use Rattle.boot_script.specs.Events.{EventView}
 use Rattle.boot_session.specs.Sessions.{session}
-use Rattle.boot_session.specs.Slots.{IsSlot}
-use Rattle.boot_sweep.specs.Refusals.{StartsIn}
+use Rattle.boot_sweep.specs.Refusals.{KeepsToSlot, StartsIn}
 use Rattle.check_laws.specs.declared.found.Reason.{Reason}
 use Rattle.check_laws.specs.declared.found.Reason.TheVariants as reasons
 use Rattle.check_laws.specs.declared.found.SessionFound.{SessionFound}
@@ -18,24 +17,19 @@ use Rattle.check_laws.specs.declared.found.SessionFound.TheVariants as found
 use Rattle.check_laws.specs.Hosts.{HostWrites, IsHosts, first_content}
 use Rattle.check_laws.specs.Staged.{Staged}
 
--- w is the member of a pair in which the first step lies, and each step lies in it
-pub record KeepsTo (c : Content) (cpu : Cpu) (steps : List Step) (w : Window) : Type 0 where
-  pub slot : IsSlot c cpu steps w
-  pub confined : Confined steps w
-
 -- the steps keep to w, of which a normal boot before them starts no image, and leave the table
 pub record Holds (c : Content) (cpu : Cpu) (steps : List Step) (w : Window) : Type 0 where
-  pub keeps : KeepsTo c cpu steps w
+  pub keeps : KeepsToSlot c cpu steps w
   pub elsewhere : StartsIn c cpu w → ⊥
   pub table : table_in (after_all c steps) ≡ table_in c
 
 -- why no law speaks of the steps: the first of these that holds
 abbrev pub IsReason : Content → Cpu → List Step → Reason → Type 0
 IsReason c cpu steps reasons.Script = ⊥
-IsReason c cpu steps reasons.Windows = (w : Window) → KeepsTo c cpu steps w → ⊥
-IsReason c cpu steps reasons.Running = (w : Window) × KeepsTo c cpu steps w × StartsIn c cpu w
+IsReason c cpu steps reasons.Windows = (w : Window) → KeepsToSlot c cpu steps w → ⊥
+IsReason c cpu steps reasons.Running = (w : Window) × KeepsToSlot c cpu steps w × StartsIn c cpu w
 IsReason c cpu steps reasons.Table =
-    (w : Window) × KeepsTo c cpu steps w × (StartsIn c cpu w → ⊥)
+    (w : Window) × KeepsToSlot c cpu steps w × (StartsIn c cpu w → ⊥)
     × (table_in (after_all c steps) ≢ table_in c)
 IsReason c cpu steps reasons.Order =
     (w : Window) × Holds c cpu steps w × (table_in c ≡ None)

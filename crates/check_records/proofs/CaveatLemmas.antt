@@ -16,7 +16,7 @@ use Rattle.boot_tape.specs.Playing.{IsTraceOf, flash_long}
 use Rattle.boot_tape.specs.Traces.{event_moves, moves_in, note_of, noted, own_moves}
 use Rattle.boot_tape.proofs.NoteLemmas.{own-moves}
 use Rattle.check_records.specs.declared.found.ScriptCaveats.{ScriptCaveats}
-use Rattle.check_records.specs.Caveats.{first_from, held_from, is_holding, is_skipping, note_holds, script_caveats, skipped_from}
+use Rattle.check_records.specs.Caveats.{first_event, held_from, is_holding, is_skipping, note_holds, script_caveats, skipped_from}
 
 pub behind-front : {X : Type 0} (xs ys : List X) → drop (length xs) (xs ++ ys) ≡ ys
 behind-front [] ys = refl
@@ -34,7 +34,7 @@ own-front m event rest =
     take-append-le (note_of m event).own (event_moves m event) rest within ∙ own
 
 pub held-noted : (k : ℕ) (m : MachineView) (events : List EventView)
-    → held_from k (noted m events) (moves_in m events) ≡ first_from is_holding k m events
+    → held_from k (noted m events) (moves_in m events) ≡ first_event is_holding k m events
 held-noted k m [] = refl
 held-noted k m (event ∷ events) =
     let next = (moved_machine m event).next in
@@ -46,7 +46,7 @@ held-noted k m (event ∷ events) =
     ∙ ap (λ o. if is_holding m event then Some k else o) (held-noted (k + 1) next events))
 
 pub skipped-noted : (n k : ℕ) (m : MachineView) (events : List EventView)
-    → skipped_from n k events (noted m events) ≡ first_from (is_skipping n) k m events
+    → skipped_from n k events (noted m events) ≡ first_event (is_skipping n) k m events
 skipped-noted n k m [] = refl
 skipped-noted n k m (event ∷ events) =
     ap (λ o. if is_skipping n m event then Some k else o) (skipped-noted n (k + 1) (moved_machine m event).next events)
@@ -59,14 +59,14 @@ pub caveats-found : (c : Content) (cpu : Cpu) (events : List EventView) (trace :
     → (let found : ScriptCaveats = record { held = held; skipped = skipped } in found ≡ script_caveats c cpu events)
 caveats-found c cpu events trace n size is held skipped h s =
     let m = powerless c cpu in
-    let one : held ≡ first_from is_holding 0 m events =
+    let one : held ≡ first_event is_holding 0 m events =
     h ∙ (ap (λ notes. held_from 0 notes (moves_from trace.moves.items)) is.notes
     ∙ (ap (held_from 0 (noted m events)) is.moves ∙ held-noted 0 m events)) in
-    let two : skipped ≡ first_from (is_skipping (length c.flash)) 0 m events =
+    let two : skipped ≡ first_event (is_skipping (length c.flash)) 0 m events =
     s ∙ (ap (λ k. skipped_from k 0 events trace.notes.items) (size ∙ is.size)
     ∙ (ap (skipped_from (length c.flash) 0 events) is.notes ∙ skipped-noted (length c.flash) 0 m events)) in
     ap (λ o. record { held = o; skipped = skipped }) one
-    ∙ ap (λ o. record { held = first_from is_holding 0 m events; skipped = o }) two
+    ∙ ap (λ o. record { held = first_event is_holding 0 m events; skipped = o }) two
 
 drop-first : {X : Type 0} (xs : List X) (i : ℕ) (d : X) → i < length xs → drop i xs ≡ get_or xs i d ∷ drop (i + 1) xs
 drop-first [] i d lt = absurd (omega (arith, lt))

@@ -48,7 +48,7 @@ use Rattle.boot_tape.specs.CutMoves.{cut_moves, move_first}
 use Rattle.boot_tape.specs.Traces.{came_of, note_of, own_moves, own_steps, served_in}
 use Rattle.boot_tape.proofs.NoteLemmas.{own-whole}
 use Rattle.boot_tape.proofs.TraceLemmas.{cut-steps}
-use Rattle.check_records.specs.Caveats.{first_from, holds_back, is_holding, outcome_holds, script_caveats}
+use Rattle.check_records.specs.Caveats.{first_event, holds_back, is_holding, outcome_holds, script_caveats}
 use Rattle.check_records.specs.GatedBlocks.{is_gated_block, is_gated_outcome, serves_gated}
 use Rattle.check_records.proofs.HoldLemmas.{first-holds, later-holds}
 
@@ -329,23 +329,23 @@ event-tells m event plain = (
 
 -- the first of events
 first-gated : (k : ℕ) (m : MachineView) (events : List EventView) → IsPlainAt m.place
-    → first_from is_holding k m events ≡ first_from is_gated_block k m events
+    → first_event is_holding k m events ≡ first_event is_gated_block k m events
 first-gated k m [] plain = refl
 first-gated k m (event ∷ events) plain =
     let tells = event-tells m event plain in
     let next = (moved_machine m event).next in
-    ap (λ b. if b then Some k else first_from is_holding (k + 1) next events) tells.0
+    ap (λ b. if b then Some k else first_event is_holding (k + 1) next events) tells.0
     ∙ go (is_gated_block m event) refl (λ none. first-gated (k + 1) next events (tells.1 none))
   where
     go : (b : Bool) → is_gated_block m event ≡ b
         → (is_gated_block m event ≡ false
-        → first_from is_holding (k + 1) (moved_machine m event).next events
-        ≡ first_from is_gated_block (k + 1) (moved_machine m event).next events)
-        → (if b then Some k else first_from is_holding (k + 1) (moved_machine m event).next events)
-        ≡ (if b then Some k else first_from is_gated_block (k + 1) (moved_machine m event).next events)
+        → first_event is_holding (k + 1) (moved_machine m event).next events
+        ≡ first_event is_gated_block (k + 1) (moved_machine m event).next events)
+        → (if b then Some k else first_event is_holding (k + 1) (moved_machine m event).next events)
+        ≡ (if b then Some k else first_event is_gated_block (k + 1) (moved_machine m event).next events)
     go true is more = refl
     go false is more = more is
 
 pub held-gated : (c : Content) (cpu : Cpu) (events : List EventView)
-    → (script_caveats c cpu events).held ≡ first_from is_gated_block 0 (powerless c cpu) events
+    → (script_caveats c cpu events).held ≡ first_event is_gated_block 0 (powerless c cpu) events
 held-gated c cpu events = first-gated 0 (powerless c cpu) events tt

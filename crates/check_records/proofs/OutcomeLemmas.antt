@@ -36,7 +36,7 @@ use Rattle.boot_machine.specs.Serving.{ServedEvent, block_served, blocks_of, com
 use Rattle.boot_machine.specs.Plays.{moved_machine, played}
 use Rattle.boot_tape.specs.Traces.{came_of, note_of, noted, outcome_before, served_in}
 use Rattle.boot_tape.proofs.NoteLemmas.{unserved}
-use Rattle.check_records.specs.Idle.{Idle, idle_from, idle_here, is_idle, is_lost, is_read, is_refused}
+use Rattle.check_records.specs.Idle.{Idle, idle_from, idle_here, is_idle, is_lost, is_refused}
 use Rattle.check_records.specs.Seeing.{came_in, outcomes_seen, unless_lost}
 use Rattle.check_records.proofs.OtherLemmas.{moved-outcome}
 
@@ -56,7 +56,7 @@ refuses _ = false
 -- a command as an event that did nothing, where it is no read
 abbrev command_here : CommandOutcome → ℕ → Bool → List Idle
 command_here k n b =
-    if b && not (is_read k.id) then record { number = n; outcome = events.Command k } ∷ [] else []
+    if b && not (has_reply k.id) then record { number = n; outcome = events.Command k } ∷ [] else []
 
 -- a command that is done did something, and so did one that boots
 command-same : (k : CommandOutcome) (d : Decision) → is_refused k.answer ≡ false

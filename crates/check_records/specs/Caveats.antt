@@ -96,18 +96,18 @@ abbrev pub is_skipping : ℕ → MachineView → EventView → Bool
 is_skipping n m event = note_skips n event (note_of m event)
 
 -- the first of the events that passes a test, where the first one has the number k
-abbrev pub first_from : (MachineView → EventView → Bool) → ℕ → MachineView → List EventView
+abbrev pub first_event : (MachineView → EventView → Bool) → ℕ → MachineView → List EventView
     → Option ℕ
-first_from passes k m [] = None
-first_from passes k m (event ∷ events) =
+first_event passes k m [] = None
+first_event passes k m (event ∷ events) =
     if passes m event then Some k
-    else first_from passes (k + 1) (moved_machine m event).next events
+    else first_event passes (k + 1) (moved_machine m event).next events
 
 -- the caveats of a script that is played on a content from no power on
 abbrev pub script_caveats : Content → Cpu → List EventView → ScriptCaveats
 script_caveats c cpu events = record {
-  held = first_from is_holding 0 (powerless c cpu) events;
-  skipped = first_from (is_skipping (length c.flash)) 0 (powerless c cpu) events;
+  held = first_event is_holding 0 (powerless c cpu) events;
+  skipped = first_event (is_skipping (length c.flash)) 0 (powerless c cpu) events;
 }
 
 -- the same by what is noted of the events, and their moves

@@ -1,19 +1,14 @@
 -- The events of a script that did nothing, by their outcomes.
-use Rattle.std.specs.Prelude.{ℕ, ◌+◌, ◌==◌, ◌&&◌, ◌||◌, Bool, true, false, not, if◌then◌else◌, List, [], ◌∷◌, ◌++◌, length, Option, Some, None}
-use Rattle.picoboot_cmd.specs.declared.kinds.TheConstants.{READ, OTP_READ}
-use Rattle.info_reply.specs.declared.kinds.TheConstants.{INFO}
+use Rattle.std.specs.Prelude.{ℕ, ◌+◌, ◌&&◌, ◌||◌, Bool, true, false, not, if◌then◌else◌, List, [], ◌∷◌, ◌++◌, length, Option, Some, None}
 use Rattle.text_lines.specs.declared.outcome.CommandAnswer.{CommandAnswer}
 use Rattle.text_lines.specs.declared.outcome.CommandAnswer.TheVariants as answers
 use Rattle.text_lines.specs.declared.outcome.CommandOutcome.{CommandOutcome}
 use Rattle.text_lines.specs.declared.outcome.BlockOutcome.{BlockOutcome}
 use Rattle.text_lines.specs.declared.outcome.BlockOutcome.TheVariants as blocks
 use Rattle.text_lines.specs.declared.outcome.EventOutcome.{EventOutcome}
+use Rattle.text_lines.specs.Outcomes.{has_reply}
 use Rattle.text_lines.specs.declared.outcome.EventOutcome.TheVariants as events
 use Rattle.check_records.specs.declared.found.Refused.{Refused}
-
--- the commands that only read: 0x84, 0x8b and 0x8c
-abbrev pub is_read : ℕ → Bool
-is_read id = id == READ || (id == INFO || id == OTP_READ)
 
 -- the command has a status other than 0
 abbrev pub is_refused : CommandAnswer → Bool
@@ -25,7 +20,7 @@ is_refused (answers.RamStarted image) = false
 
 -- a command that is no read and has a status other than 0
 abbrev pub is_idle_command : CommandOutcome → Bool
-is_idle_command c = is_refused c.answer && not (is_read c.id)
+is_idle_command c = is_refused c.answer && not (has_reply c.id)
 
 -- 512 bytes that break the form of a block, or a block that is refused
 abbrev pub is_idle_block : BlockOutcome → Bool

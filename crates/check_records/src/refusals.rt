@@ -1,8 +1,9 @@
 //! The records of a script that did nothing, as its events are told one after another.
 
 ghost use Rattle.std.specs.Prelude.{◌≡◌, ◌+◌, ◌^◌, ◌<◌, ◌∷◌, if◌then◌else◌, [], None, Some, false};
+ghost use Rattle.text_lines.specs.Outcomes.{has_reply};
 ghost use Rattle.text_lines.specs.declared.outcome.EventOutcome.TheVariants as events;
-ghost use Rattle.check_records.specs.Idle.{is_idle, is_idle_block, is_idle_command, is_lost, is_read};
+ghost use Rattle.check_records.specs.Idle.{is_idle, is_idle_block, is_idle_command, is_lost};
 ghost use Rattle.check_records.specs.Noting.{HasNotedOutcome, count_in, refused_with};
 ghost use Rattle.check_records.specs.Seeing.{came_in};
 
@@ -22,8 +23,8 @@ pub(crate) struct Refusals {
 }
 
 /// Whether the command only reads.
-fn is_read(id: u8) -> bool
-    ensures { result ≡ is_read id }
+fn has_reply(id: u8) -> bool
+    ensures { result ≡ has_reply id }
 {
     id == READ || id == INFO || id == OTP_READ
 }
@@ -36,7 +37,7 @@ fn idle_command(command: &CommandOutcome) -> Option<EventOutcome>
     let CommandAnswer::Refused(status) = &command.answer else {
         return None;
     };
-    if is_read(command.id) {
+    if has_reply(command.id) {
         return None;
     }
     Some(EventOutcome::Command(CommandOutcome {

@@ -29,7 +29,7 @@ use Rattle.check_laws.specs.OwnLaws.{IsBootLaw, IsBuyLaw}
 use Rattle.check_laws.specs.SessionLaws.{IsSessionLaw}
 use Rattle.check_records.specs.Again.{AreCutFacts, IsAgain}
 use Rattle.check_records.specs.Records.{records_of}
-use Rattle.check_records.specs.Caveats.{first_from, is_skipping}
+use Rattle.check_records.specs.Caveats.{first_event, is_skipping}
 use Rattle.check_records.specs.GatedBlocks.{is_gated_block}
 use Rattle.cli_check.specs.Findings.{FindingsView, ImagesView}
 
@@ -121,6 +121,6 @@ pub record AreFindings (c : Content) (cpu : Cpu) (events : List EventView) (patt
   pub session : IsSessionLaw c cpu events f.session
   pub boot : IsBootLaw c cpu events f.boot
   pub buy : IsBuyLaw c cpu events f.buy
-  pub held : f.script.held ≡ first_from is_gated_block 0 (powerless c cpu) events
+  pub held : f.script.held ≡ first_event is_gated_block 0 (powerless c cpu) events
   pub skipped : f.script.skipped
-      ≡ first_from (is_skipping (length c.flash)) 0 (powerless c cpu) events
+      ≡ first_event (is_skipping (length c.flash)) 0 (powerless c cpu) events

@@ -33,7 +33,8 @@ use Rattle.boot_rules.specs.Picking.{taken}
 use Rattle.boot_rules.specs.Starts.{IsOfUnit}
 use Rattle.boot_rules.specs.Tables.{table_in}
 use Rattle.boot_rules.proofs.DecisionLemmas.{chosen-exactly}
-use Rattle.law_boot_cuts.specs.Crashes.{AreOwnSteps, KeepsOtherRows, KeepsOtherTriples, LeavesNoAccidentalImage, StartsAlike, settled_choice}
+use Rattle.law_boot_cuts.specs.Crashes.{AreOwnSteps, KeepsOtherRows, KeepsOtherTriples, LeavesNoAccidentalImage, settled_choice}
+use Rattle.boot_session.specs.CutSessions.{StartsFinished}
 use Rattle.law_boot_cuts.proofs.OwnDecisionLemmas.{KeepsCounts, decision-ends, decision-stays}
 use Rattle.law_boot_cuts.proofs.OwnLaws.{ComesTo, IsOwnList, end-cut, end-taken, inside, left-list, listed, no-cut, not, others, outside-apart, own-list, own-table, placed, raised-listed, version}
 use Rattle.law_boot_cuts.proofs.OwnLeftLemmas.{IsLeft, raises-content}
@@ -220,7 +221,7 @@ module _ (c : Content) (cpu : Cpu) (kind : BootKind) (choice : Choice) (right : 
       table x left = own-table c cpu kind choice right h found is steps are x (whole-left x left) ∙ sym is
 
       abbrev Ends : Type 0
-      Ends = Chosen d cpu Normal f ⊎ StartsAlike e d cpu
+      Ends = Chosen d cpu Normal f ⊎ StartsFinished e d cpu
 
       moved : decision_in d cpu Normal ≡ decision_in c cpu Normal → Ends
       moved same =
@@ -332,7 +333,7 @@ module _ (c : Content) (cpu : Cpu) (kind : BootKind) (choice : Choice) (right : 
 
     pub part-decision : (k : ℕ) (step : Step) (d : Content) → IsCutAt c done k step d
         → LeavesNoAccidentalImage c (after_all c done) d cpu choice step → (f : Decision) → Chosen c cpu Normal f
-        → Chosen d cpu Normal f ⊎ StartsAlike (after_all c done) d cpu
+        → Chosen d cpu Normal f ⊎ StartsFinished (after_all c done) d cpu
     part-decision k step d at lucky f former = elim (own-list c cpu kind choice right h steps are) [
       | inl own ↦ list-part own k step d at lucky f former
       | inr none ↦

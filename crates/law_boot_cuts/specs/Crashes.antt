@@ -62,13 +62,6 @@ pub record StartsBought (z d : Content) (cpu : Cpu) (choice : Choice) : Type 0 w
   pub after : Chosen z cpu Normal (Start (settled_choice choice))
   pub same : SameImage d z (bought choice.image) cpu
 
--- a normal boot makes the same start on d and on z, and the image has the same bytes in both
-pub record StartsAlike (z d : Content) (cpu : Cpu) : Type 0 where
-  pub choice : Choice
-  pub here : Chosen d cpu Normal (Start choice)
-  pub after : Chosen z cpu Normal (Start choice)
-  pub same : SameImage d z choice.image cpu
-
 -- the steps raise no row in the triple of a row that an image of another boot unit lists; images
 -- count that are valid in a normal boot
 pub record KeepsOtherRows (c : Content) (cpu : Cpu) (u : SlotUnit)

@@ -227,13 +227,13 @@ inside-all w k (step ∷ steps) is = go (λ more. inside-all w (k + 1) steps mor
     go more false here is = cc
 
 -- a session that is swept keeps to a slot in which no boot on c starts an image, or has no steps
-pub record KeepsToSlot (c : Content) (cpu : Cpu) (steps : List Step) (w : Window) : Type 0 where
+pub record IsSweptIn (c : Content) (cpu : Cpu) (steps : List Step) (w : Window) : Type 0 where
   pub boot_member : IsBootMember c w cpu
   pub confined : Confined steps w
   pub elsewhere : StartsIn c cpu w → ⊥
 
 slot-keeps : (c : Content) (cpu : Cpu) (steps : List Step) (w : Window) → sweep_refusal c cpu steps ≡ None
-    → session_slot c cpu steps ≡ Some w → KeepsToSlot c cpu steps w
+    → session_slot c cpu steps ≡ Some w → IsSweptIn c cpu steps w
 slot-keeps c cpu steps w none slot =
     let parts = swept-parts c cpu steps none in record {
       boot_member = (slot-found c cpu steps w slot).boot_member;
@@ -251,10 +251,10 @@ abbrev none_found : Option ℕ
 none_found = None
 
 pub slot-of-swept : (c : Content) (cpu : Cpu) (first : Step) (steps : List Step)
-    → sweep_refusal c cpu (first ∷ steps) ≡ None → (w : Window) × KeepsToSlot c cpu (first ∷ steps) w
+    → sweep_refusal c cpu (first ∷ steps) ≡ None → (w : Window) × IsSweptIn c cpu (first ∷ steps) w
 slot-of-swept c cpu first steps none = go (session_slot c cpu (first ∷ steps)) refl
   where
-    go : (o : Option Window) → session_slot c cpu (first ∷ steps) ≡ o → (w : Window) × KeepsToSlot c cpu (first ∷ steps) w
+    go : (o : Option Window) → session_slot c cpu (first ∷ steps) ≡ o → (w : Window) × IsSweptIn c cpu (first ∷ steps) w
     go (Some w) slot = (w, slot-keeps c cpu (first ∷ steps) w none slot)
     go None slot =
         let parts = swept-parts c cpu (first ∷ steps) none in

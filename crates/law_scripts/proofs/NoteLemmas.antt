@@ -18,7 +18,8 @@ use Rattle.uf2_place.specs.declared.block.Uf2Fault.{Uf2Fault}
 use Rattle.uf2_place.specs.declared.block.Uf2Fault.TheVariants.{Magic, Payload, Alignment, Number}
 use Rattle.uf2_place.specs.Blocks.{uf2_of}
 use Rattle.script_words.proofs.MarkLemmas.{free-append, is_free, is_other}
-use Rattle.script_text.specs.Comments.{action_text, command_text, info_text, note_of, read_command_text, read_uf2_text, reboot_text, rows_text, start_and_size_text, uf2_counts, uf2_target, uf2_text}
+use Rattle.script_words.specs.Spelling.{range_text}
+use Rattle.script_text.specs.Comments.{action_text, command_text, info_text, note_of, read_command_text, read_uf2_text, reboot_text, rows_text, uf2_counts, uf2_target, uf2_text}
 use Rattle.script_text.specs.Listing.{comment_text}
 
 glyph-high : (d : ℕ) → 48 ≤ digit_glyph false d
@@ -76,8 +77,8 @@ free-word n = free-hex 8 n
 
 -- ---- comments
 
-free-span : (start size : ℕ) → is_free 10 (start_and_size_text start size) ≡ true
-free-span start size =
+free-range : (start size : ℕ) → is_free 10 (range_text start size) ≡ true
+free-range start size =
     free-append 10 (hex_word start) (codes "+" ++ hex_word size) (free-word start) (free-word size)
 
 free-row : (n : ℕ) → is_free 10 (hex_row n) ≡ true
@@ -93,7 +94,7 @@ free-reboot cmd =
     free-if (reboot_flags cmd == 0 || reboot_flags cmd == 0x100) _ _ refl
     (free-if (reboot_flags cmd == 2 || reboot_flags cmd == 0x102) _ _ refl
     (free-if (reboot_flags cmd == 4 || reboot_flags cmd == 0x104) _ _ (free-word (reboot_p0 cmd))
-    (free-if (reboot_flags cmd == 3 || reboot_flags cmd == 0x103) _ _ (free-span (reboot_p0 cmd) (reboot_p1 cmd))
+    (free-if (reboot_flags cmd == 3 || reboot_flags cmd == 0x103) _ _ (free-range (reboot_p0 cmd) (reboot_p1 cmd))
     (free-word (reboot_flags cmd)))))
 
 free-info : (kind argument : ℕ) → is_free 10 (info_text kind argument) ≡ true
@@ -106,9 +107,9 @@ free-info kind argument =
 free-action : (cmd : Cmd) → is_free 10 (action_text cmd) ≡ true
 free-action cmd =
     free-if (cmd.id == EXCLUSIVE && cmd.arg_size == 1) _ _ (free-decimal (slice_index cmd.args 0))
-    (free-if (cmd.id == ERASE && cmd.arg_size == 8) _ _ (free-span (address cmd) (size cmd))
-    (free-if (cmd.id == READ && cmd.arg_size == 8) _ _ (free-span (address cmd) (size cmd))
-    (free-if (cmd.id == WRITE && cmd.arg_size == 8) _ _ (free-span (address cmd) (size cmd))
+    (free-if (cmd.id == ERASE && cmd.arg_size == 8) _ _ (free-range (address cmd) (size cmd))
+    (free-if (cmd.id == READ && cmd.arg_size == 8) _ _ (free-range (address cmd) (size cmd))
+    (free-if (cmd.id == WRITE && cmd.arg_size == 8) _ _ (free-range (address cmd) (size cmd))
     (free-if (cmd.id == EXIT_XIP && cmd.arg_size == 0) _ _ refl
     (free-if (cmd.id == ENTER_XIP && cmd.arg_size == 0) _ _ refl
     (free-if (cmd.id == REBOOT && cmd.arg_size == 16) _ _ (free-reboot cmd)

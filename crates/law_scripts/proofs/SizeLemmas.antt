@@ -43,7 +43,7 @@ use Rattle.script_words.specs.Saying.{HasEventBytes, HasToken, IsEvent, IsLine, 
 use Rattle.script_words.specs.Spelling.{family_text, line_text, name_or_number, range_text, spelled, token_text, value_texts}
 use Rattle.script_words.specs.Values.{LineView, ValueView, Plain, Number, Span, Bytes, said}
 use Rattle.script_text.specs.declared.script.TheConstants.{MOST_RECORDS, TEXT_LIMIT}
-use Rattle.script_text.specs.Comments.{action_text, command_text, info_text, note_of, read_command_text, read_uf2_text, reboot_text, rows_text, start_and_size_text, uf2_counts, uf2_target, uf2_text}
+use Rattle.script_text.specs.Comments.{action_text, command_text, info_text, note_of, read_command_text, read_uf2_text, reboot_text, rows_text, uf2_counts, uf2_target, uf2_text}
 use Rattle.script_text.specs.Listing.{comment_text, listed, listed_event, listed_from, numbered}
 use Rattle.script_text.specs.Meaning.{IsWithinLimits}
 use Rattle.script_text.proofs.LimitLemmas.{command-long}
@@ -96,8 +96,8 @@ size-row n small =
 size-decimal : (k n : ℕ) → 0 < k → n < 10 ^ k → n < 2 ^ 64 → length (decimal n) ≤ k
 size-decimal k n some small most = length-decimal-le k n some small most
 
-size-span : (start size : ℕ) → start < 2 ^ 32 → size < 2 ^ 32 → length (start_and_size_text start size) ≡ 21
-size-span start size first second =
+size-range : (start size : ℕ) → start < 2 ^ 32 → size < 2 ^ 32 → length (range_text start size) ≡ 21
+size-range start size first second =
     let both = length-append (hex_word start) (codes "+" ++ hex_word size) in
     omega (arith, both, size-word start first, size-word size second)
 
@@ -126,7 +126,7 @@ size-reboot cmd are =
     (size-if 30 (reboot_flags cmd == 2 || reboot_flags cmd == 0x102) _ _ (omega arith)
     (size-if 30 (reboot_flags cmd == 4 || reboot_flags cmd == 0x104) _ _ (omega (arith, size-word (reboot_p0 cmd) base))
     (size-if 30 (reboot_flags cmd == 3 || reboot_flags cmd == 0x103) _ _
-    (omega (arith, size-span (reboot_p0 cmd) (reboot_p1 cmd) base size))
+    (omega (arith, size-range (reboot_p0 cmd) (reboot_p1 cmd) base size))
     (omega (arith, size-word (reboot_flags cmd) flags)))))
 
 size-info : (kind argument : ℕ) → kind < 256 → argument < 2 ^ 32 → length (info_text kind argument) ≤ 30
@@ -141,7 +141,7 @@ size-info kind argument small most =
 size-action : (cmd : Cmd) → cmd.id < 256 → IsBytes cmd.args → length (action_text cmd) ≤ 40
 size-action cmd small are =
     let argument = word-small 4 cmd.args are in
-    let range = size-span (address cmd) (size cmd) (word-small 0 cmd.args are) argument in
+    let range = size-range (address cmd) (size cmd) (word-small 0 cmd.args are) argument in
     let rows = size-rows cmd are in
     let first : slice_index cmd.args 0 < 256 = are 0 in
     size-if 40 (cmd.id == EXCLUSIVE && cmd.arg_size == 1) _ _
@@ -247,11 +247,6 @@ weight (Bytes bytes) = 2 * length bytes
 
 ten-digits : (n : ℕ) → n < 2 ^ 32 → length (decimal n) ≤ 10
 ten-digits n small = size-decimal 10 n (omega arith) (omega (arith, small)) (omega (arith, small))
-
-size-range : (start size : ℕ) → start < 2 ^ 32 → size < 2 ^ 32 → length (range_text start size) ≡ 21
-size-range start size first second =
-    let both = length-append (hex_word start) (codes "+" ++ hex_word size) in
-    omega (arith, both, size-word start first, size-word size second)
 
 behind-key : (key : Keyword) (w : List ℕ) (k : ℕ) → length w ≤ k → length (keyword_text key ++ w) ≤ 10 + k
 behind-key key w k few = omega (arith, length-append (keyword_text key) w, size-key key, few)

@@ -14,14 +14,11 @@ use Rattle.uf2_place.specs.declared.block.Uf2Fault.{Uf2Fault}
 use Rattle.uf2_place.specs.declared.block.Uf2Fault.TheVariants.{Magic, Payload, Alignment, Number}
 use Rattle.uf2_place.specs.Blocks.{uf2_of}
 use Rattle.boot_script.specs.Events.{EventView, Command, Uf2, Cut}
-
--- a start and a size
-abbrev pub start_and_size_text : ℕ → ℕ → List ℕ
-start_and_size_text start size = hex_word start ++ (codes "+" ++ hex_word size)
+use Rattle.script_words.specs.Spelling.{range_text}
 
 -- the range of an erase, a read or a write
-abbrev pub range_text : Cmd → List ℕ
-range_text cmd = start_and_size_text (address cmd) (size cmd)
+abbrev pub command_range_text : Cmd → List ℕ
+command_range_text cmd = range_text (address cmd) (size cmd)
 
 -- the rows of an OTP read or write, and the byte by which error correction is asked for
 abbrev pub rows_text : Cmd → List ℕ
@@ -38,7 +35,7 @@ reboot_text cmd =
     else if reboot_flags cmd == 4 || reboot_flags cmd == 0x104 then
     codes "update=" ++ hex_word (reboot_p0 cmd)
     else if reboot_flags cmd == 3 || reboot_flags cmd == 0x103 then
-    codes "ram=" ++ start_and_size_text (reboot_p0 cmd) (reboot_p1 cmd)
+    codes "ram=" ++ range_text (reboot_p0 cmd) (reboot_p1 cmd)
     else codes "flags=" ++ hex_word (reboot_flags cmd)
 
 -- what an info command asks for, by its kind and its argument: the kind is its first argument
@@ -57,9 +54,9 @@ abbrev pub action_text : Cmd → List ℕ
 action_text cmd =
     if cmd.id == EXCLUSIVE && cmd.arg_size == 1 then
     codes "exclusive " ++ decimal (slice_index cmd.args 0)
-    else if cmd.id == ERASE && cmd.arg_size == 8 then codes "erase " ++ range_text cmd
-    else if cmd.id == READ && cmd.arg_size == 8 then codes "read " ++ range_text cmd
-    else if cmd.id == WRITE && cmd.arg_size == 8 then codes "write " ++ range_text cmd
+    else if cmd.id == ERASE && cmd.arg_size == 8 then codes "erase " ++ command_range_text cmd
+    else if cmd.id == READ && cmd.arg_size == 8 then codes "read " ++ command_range_text cmd
+    else if cmd.id == WRITE && cmd.arg_size == 8 then codes "write " ++ command_range_text cmd
     else if cmd.id == EXIT_XIP && cmd.arg_size == 0 then codes "exit-xip"
     else if cmd.id == ENTER_XIP && cmd.arg_size == 0 then codes "enter-xip"
     else if cmd.id == REBOOT && cmd.arg_size == 16 then codes "reboot " ++ reboot_text cmd

@@ -3,7 +3,8 @@
 ghost use Rattle.std.specs.Prelude.{◌≡◌, IfOk, string_bytes};
 ghost use Rattle.boot_script.specs.Events.{event_from};
 ghost use Rattle.text_words.specs.Writing.{hex_word};
-ghost use Rattle.script_text.specs.Comments.{action_text, command_text, info_text, range_text, reboot_text, rows_text, start_and_size_text, note_of, uf2_counts, uf2_target, uf2_text};
+ghost use Rattle.script_words.specs.Spelling.{range_text};
+ghost use Rattle.script_text.specs.Comments.{action_text, command_range_text, command_text, info_text, note_of, reboot_text, rows_text, uf2_counts, uf2_target, uf2_text};
 
 use boot_script::Event;
 use byteorder::{ByteOrder, LittleEndian};
@@ -24,8 +25,8 @@ fn word_text(alloc: Global, n: u32) -> Result<String, AllocError>
 }
 
 /// A start and a size.
-fn start_and_size_text(alloc: Global, start: u32, size: u32) -> Result<String, AllocError>
-    ensures { IfOk result (λ t. string_bytes t ≡ start_and_size_text start size) }
+fn range_text(alloc: Global, start: u32, size: u32) -> Result<String, AllocError>
+    ensures { IfOk result (λ t. string_bytes t ≡ range_text start size) }
 {
     let start = word_text(alloc, start)?;
     let size = word_text(alloc, size)?;
@@ -33,10 +34,10 @@ fn start_and_size_text(alloc: Global, start: u32, size: u32) -> Result<String, A
 }
 
 /// The name of an action and the range of an erase, a read or a write.
-fn range_text(alloc: Global, cmd: &Cmd) -> Result<String, AllocError>
-    ensures { IfOk result (λ t. string_bytes t ≡ range_text cmd.now) }
+fn command_range_text(alloc: Global, cmd: &Cmd) -> Result<String, AllocError>
+    ensures { IfOk result (λ t. string_bytes t ≡ command_range_text cmd.now) }
 {
-    start_and_size_text(alloc, cmd.address(), cmd.size())
+    range_text(alloc, cmd.address(), cmd.size())
 }
 
 /// The rows of an OTP read or write, and the byte by which error correction is asked for.
@@ -61,7 +62,7 @@ fn reboot_text(alloc: Global, cmd: &Cmd) -> Result<String, AllocError>
             format!(in alloc; "update={base}")
         }
         3 | 0x103 => {
-            let range = start_and_size_text(alloc, cmd.reboot_p0(), cmd.reboot_p1())?;
+            let range = range_text(alloc, cmd.reboot_p0(), cmd.reboot_p1())?;
             format!(in alloc; "ram={range}")
         }
         flags => {
@@ -97,15 +98,15 @@ fn action_text(alloc: Global, cmd: &Cmd) -> Result<String, AllocError>
             format!(in alloc; "exclusive {exclusive}")
         }
         (ERASE, 8) => {
-            let range = range_text(alloc, cmd)?;
+            let range = command_range_text(alloc, cmd)?;
             format!(in alloc; "erase {range}")
         }
         (READ, 8) => {
-            let range = range_text(alloc, cmd)?;
+            let range = command_range_text(alloc, cmd)?;
             format!(in alloc; "read {range}")
         }
         (WRITE, 8) => {
-            let range = range_text(alloc, cmd)?;
+            let range = command_range_text(alloc, cmd)?;
             format!(in alloc; "write {range}")
         }
         (EXIT_XIP, 0) => format!(in alloc; "exit-xip"),

@@ -14,7 +14,7 @@ ghost use Rattle.boot_rules.specs.Choosing.{decision_in};
 ghost use Rattle.boot_rules.specs.Chosen.{Chosen};
 ghost use Rattle.boot_rules.specs.Tables.{table_in};
 ghost use Rattle.boot_script.specs.Events.{EventView};
-ghost use Rattle.boot_sweep.specs.Refusals.{StartsIn};
+ghost use Rattle.boot_sweep.specs.Refusals.{KeepsToSlot, StartsIn};
 ghost use Rattle.boot_session.specs.CutSessions.{StartsFinished, StartsThere};
 ghost use Rattle.check_require.specs.declared.report.LawOfWrites.{LawOfWrites};
 ghost use Rattle.check_laws.specs.OwnLaws.{IsBootLaw, IsBuyLaw};
@@ -22,7 +22,7 @@ ghost use Rattle.check_laws.specs.declared.found.SessionFound.{SessionFound};
 ghost use Rattle.check_laws.specs.declared.found.SessionFound.TheVariants.{Confined, Gated, Open, Staged};
 ghost use Rattle.check_laws.specs.declared.found.Reason.TheVariants.{Order, Running, Script, Table, Windows};
 ghost use Rattle.check_laws.specs.Hosts.{HostWrites, IsHosts, first_content};
-ghost use Rattle.check_laws.specs.SessionLaws.{Holds, IsSessionLaw, IsStepsLaw, KeepsTo, host_steps};
+ghost use Rattle.check_laws.specs.SessionLaws.{Holds, IsSessionLaw, IsStepsLaw, host_steps};
 ghost use Rattle.check_laws.specs.Staged.{Staged as AreStaged};
 
 /// A script has one law of its session at most.
@@ -85,13 +85,13 @@ pub fn the_first_that_holds_is_told()
         → IsContent c → HostWrites c cpu events → (IsHosts c cpu events → ⊥)
         → IsSessionLaw c cpu events law → law ≡ Open Script }
     ensures windows { (c : Content) (cpu : Cpu) (steps : List Step) (law : SessionFound)
-        → IsContent c → ((w : Window) → KeepsTo c cpu steps w → ⊥)
+        → IsContent c → ((w : Window) → KeepsToSlot c cpu steps w → ⊥)
         → IsStepsLaw c cpu steps law → law ≡ Open Windows }
     ensures running { (c : Content) (cpu : Cpu) (steps : List Step) (law : SessionFound)
-        (w : Window) → IsContent c → KeepsTo c cpu steps w → StartsIn c cpu w
+        (w : Window) → IsContent c → KeepsToSlot c cpu steps w → StartsIn c cpu w
         → IsStepsLaw c cpu steps law → law ≡ Open Running }
     ensures table { (c : Content) (cpu : Cpu) (steps : List Step) (law : SessionFound)
-        (w : Window) → IsContent c → KeepsTo c cpu steps w → (StartsIn c cpu w → ⊥)
+        (w : Window) → IsContent c → KeepsToSlot c cpu steps w → (StartsIn c cpu w → ⊥)
         → table_in (after_all c steps) ≢ table_in c
         → IsStepsLaw c cpu steps law → law ≡ Open Table }
     ensures order { (c : Content) (cpu : Cpu) (steps : List Step) (law : SessionFound)

@@ -12,7 +12,7 @@ ghost use Rattle.part_table.specs.declared.Target.{Target};
 ghost use Rattle.uf2_place.specs.declared.block.Uf2.{Uf2};
 ghost use Rattle.uf2_place.specs.Placement.{grown, is_whole_download};
 ghost use Rattle.boot_sweep.specs.Moving.{Done};
-ghost use Rattle.check_records.specs.Caveats.{first_from, holds_back, script_caveats};
+ghost use Rattle.check_records.specs.Caveats.{first_event, holds_back, script_caveats};
 ghost use Rattle.check_records.specs.GatedBlocks.{is_gated_block};
 ghost use Rattle.check_records.specs.Repeats.{DiffersOnlyIn};
 ghost use Rattle.check_records.specs.Unerased.{IsFirstUnerased, IsUnerased, first_unerased};
@@ -55,5 +55,5 @@ pub fn a_gated_download_begins_by_holding_back()
 pub fn the_first_block_of_a_gated_download_is_told()
     ensures { (c : Content) (cpu : Cpu) (events : List EventView)
         → (script_caveats c cpu events).held
-        ≡ first_from is_gated_block 0 (powerless c cpu) events }
+        ≡ first_event is_gated_block 0 (powerless c cpu) events }
 {}

@@ -13,7 +13,8 @@ ghost use Rattle.boot_rules.specs.Tables.{table_in};
 ghost use Rattle.boot_rules.specs.declared.decision.Decision.{Decision};
 ghost use Rattle.boot_rules.specs.declared.decision.Decision.TheVariants.{Start};
 ghost use Rattle.boot_rules.specs.declared.tables.Found.{Found};
-ghost use Rattle.law_boot_cuts.specs.Crashes.{AreOwnSteps, LeavesNoAccidentalImage, IsUnitWindow, KeepsOtherRows, KeepsOtherTriples, PicksBought, StartsAlike, StartsBought};
+ghost use Rattle.law_boot_cuts.specs.Crashes.{AreOwnSteps, LeavesNoAccidentalImage, IsUnitWindow, KeepsOtherRows, KeepsOtherTriples, PicksBought, StartsBought};
+ghost use Rattle.boot_session.specs.CutSessions.{StartsFinished};
 ghost use Rattle.boot_rules.specs.AccidentalImages.{HasNoImage, IsSameImageIn, HasNoAccidentalImage};
 ghost use Rattle.image_check.specs.Changes.{bought};
 ghost use Rattle.image_check.specs.SameImage.{SameImage};
@@ -132,7 +133,7 @@ pub fn own_writes_that_are_cut_short()
         → KeepsOtherRows c cpu u done → IsCutAt c done k step d
         → LeavesNoAccidentalImage c (after_all c done) d cpu choice step
         → Chosen c cpu Normal e
-        → Chosen d cpu Normal e ⊎ StartsAlike (after_all c done) d cpu }
+        → Chosen d cpu Normal e ⊎ StartsFinished (after_all c done) d cpu }
 {}
 
 /// Where there is a table, the steps of an updated start or of a buy, done or torn, leave it.

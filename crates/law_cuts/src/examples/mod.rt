@@ -8,7 +8,7 @@ ghost use Rattle.pico_board.specs.declared.boot.Cpu.TheVariants.{Arm};
 ghost use Rattle.boot_script.specs.Events.{Cut};
 ghost use Rattle.boot_session.specs.Sessions.{session};
 ghost use Rattle.boot_sweep.specs.declared.results.CutResult.TheVariants.{Chance};
-ghost use Rattle.boot_sweep.specs.Refusals.{StartsIn};
+ghost use Rattle.boot_sweep.specs.Refusals.{KeepsToSlot, StartsIn};
 ghost use Rattle.boot_sweep.specs.Sweeps.{sweep_lines};
 ghost use Rattle.cut_class.specs.declared.class.Class.{Class};
 ghost use Rattle.cut_class.specs.declared.class.Class.TheVariants.{Former, Finished, Whole, Tail, Mixed, Bootsel};
@@ -16,7 +16,7 @@ ghost use Rattle.boot_cuts.specs.Classes.{IsClass};
 ghost use Rattle.boot_cuts.specs.Contents.{cut_contents};
 ghost use Rattle.boot_tape.specs.Traces.{trace};
 ghost use Rattle.check_laws.specs.Hosts.{HostWrites, IsHosts};
-ghost use Rattle.check_laws.specs.SessionLaws.{Holds, KeepsTo};
+ghost use Rattle.check_laws.specs.SessionLaws.{Holds};
 ghost use Rattle.law_cuts.specs.Sessions.{is_one_session};
 ghost use Rattle.worked_flashes.specs.Choices.{small_former, small_slot};
 ghost use Rattle.worked_flashes.specs.Flashes.{arm_slot, bare_slot, beside_small, data_page};
@@ -51,7 +51,7 @@ pub fn a_script_of_a_host()
     ensures hosts { IsHosts (beside_small bare_slot) Arm small_script }
     ensures writes { HostWrites (beside_small bare_slot) Arm small_script }
     ensures starts { StartsIn (beside_small bare_slot) Arm small_former.image.window }
-    ensures keeps { KeepsTo (beside_small bare_slot) Arm longer_steps small_slot }
+    ensures keeps { KeepsToSlot (beside_small bare_slot) Arm longer_steps small_slot }
     ensures holds { Holds (beside_small bare_slot) Arm longer_steps small_slot }
 {
     a_cut_behind_the_image();
