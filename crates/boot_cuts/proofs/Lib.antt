@@ -1,4 +1,3 @@
-mod PoolLemmas
 pub mod RunLemmas
 pub mod RunLawLemmas
 pub mod TearLemmas

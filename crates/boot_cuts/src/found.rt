@@ -84,7 +84,7 @@ pub fn slot_beside(board: &MemBoard, cpu: Cpu, steps: &[Step], moves: &[Move<'_>
 }
 
 /// A pool with free sectors.
-#[tactic(auto, using(crate::proofs::PoolLemmas::one_free))]
+#[tactic(auto, using(boot_machine::proofs::BeginningLemmas::new_free))]
 pub fn pool_of(alloc: Global) -> Result<SectorPool, AllocError>
     ensures { IfOk result HasFree }
 {

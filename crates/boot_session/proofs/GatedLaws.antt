@@ -89,7 +89,7 @@ decide-blank bytes start (suc count) =
     go (inl all) (inr differ) = inr (count, omega arith, differ)
     go (inl all) (inl here) = inl (λ i lt. last i all here lt (cases_eq i count))
 
--- a flash without a table has none where one slot's first sector is erased and the other one is kept
+-- a slot whose first sector is erased has no table
 slot-blank : (sectors first : ℕ) (bytes : List ℕ) → IsErasedFrom bytes 0 4096 → slot_table sectors first bytes ≡ None
 slot-blank sectors first bytes erased = ap (λ r. result_ok (answer_in_loop sectors first r))
     (loop_of-blank bytes erased)
@@ -159,8 +159,9 @@ only v (suc k) u e = cc
 slots-differ : (z : ℕ) → AreApart (slot_window z 0) (slot_window z 1)
 slots-differ z = inl (omega arith)
 
+-- the content d differs from c in the window of a member alone, which as a table slot has no table
 module _ (c : Content) (w : Window) (cpu : Cpu) (right : IsContent c) (boot_member : IsBootMember c w cpu) (d : Content)
-    (same : SameButWindow w c d) (erased : IsErasedFrom (window_bytes d w) 0 4096) where
+    (same : SameButWindow w c d) (bare : (sectors first : ℕ) → slot_table sectors first (window_bytes d w) ≡ None) where
   abbrev n : ℕ
   n = length c.flash
 
@@ -189,8 +190,8 @@ module _ (c : Content) (w : Window) (cpu : Cpu) (right : IsContent c) (boot_memb
       mine : (k : ℕ) → w ≡ slot_window z k
           → slot_table (n / 4096) (2 * z / 4096) (window_bytes d (slot_window z k)) ≡ None
       mine k is =
-          slot-blank (n / 4096) (2 * z / 4096) (window_bytes d (slot_window z k))
-          (subst (λ v. IsErasedFrom (window_bytes d v) 0 4096) is erased)
+          subst (λ v. slot_table (n / 4096) (2 * z / 4096) (window_bytes d v) ≡ None) is
+          (bare (n / 4096) (2 * z / 4096))
 
       theirs : (k : ℕ) → AreApart w (slot_window z k)
           → slot_table (n / 4096) (2 * z / 4096) (window_bytes c (slot_window z k)) ≡ None
@@ -207,13 +208,20 @@ module _ (c : Content) (w : Window) (cpu : Cpu) (right : IsContent c) (boot_memb
           (theirs 0 (subst (λ v. AreApart v (slot_window z 0)) (sym is)
           (apart_sym (slot_window z 0) (slot_window z 1) (slots-differ z))) before.0) (mine 1 is)
 
-  -- while the slot's first sector is erased the table is the former one
-  pub blank-table : table_in d ≡ table_in c
-  blank-table = go (table_in c) refl
+  -- the table is the former one
+  pub bare-table : table_in d ≡ table_in c
+  bare-table = go (table_in c) refl
     where
       go : (o : Option Found) → table_in c ≡ o → table_in d ≡ o
       go None none = no-table none
       go (Some found) is = table-stays c w cpu right boot_member d same found is
+
+module _ (c : Content) (w : Window) (cpu : Cpu) (right : IsContent c) (boot_member : IsBootMember c w cpu) (d : Content)
+    (same : SameButWindow w c d) (erased : IsErasedFrom (window_bytes d w) 0 4096) where
+  -- while the slot's first sector is erased the table is the former one
+  pub blank-table : table_in d ≡ table_in c
+  blank-table = bare-table c w cpu right boot_member d same
+      (λ sectors first. slot-blank sectors first (window_bytes d w) erased)
 
   pub blank-image : images_in d cpu w false ≡ None
   blank-image = ap result_ok (erased-none in_flash w cpu false d.otp (window_bytes d w) erased)

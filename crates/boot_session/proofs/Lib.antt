@@ -17,6 +17,5 @@ mod RecorderLemmas
 mod MarkLemmas
 pub mod ServedLemmas
 mod SessionLemmas
-mod PoolLemmas
 pub mod SlotLemmas
 mod StepBoundLemmas

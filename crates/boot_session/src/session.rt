@@ -95,7 +95,7 @@ fn play<B: Bench>(machine: &mut Machine<B>, script: &Script<'_>)
 }
 
 /// A machine that has entered BOOTSEL.
-#[tactic(auto, using(crate::proofs::PoolLemmas::two_free))]
+#[tactic(auto, using(boot_machine::proofs::BeginningLemmas::new_free))]
 fn machine_of<B: Bench + Drop>(alloc: Global, board: B, cpu: Cpu) -> Result<Machine<B>, AllocError>
     requires power { IsTrue (B.state board).powered }
     ensures board { IfOk result (λ machine. machine.board ≡ board) }

@@ -13,8 +13,8 @@ pub fn is_same_started(one: &Started, two: &Started) -> bool
 }
 
 /// Whether the decisions are the same.
-pub fn is_same_decision(one: &Decision, two: &Decision) -> bool
-    ensures { result ≡ is_same_decision one.now two.now }
+pub fn is_same_decision(decision: &Decision, other: &Decision) -> bool
+    ensures { result ≡ is_same_decision decision.now other.now }
 {
-    one == two
+    decision == other
 }

@@ -45,8 +45,9 @@ fn has_no_other_at<V: View>(view: &V, found: &BlockLoop, at: u32) -> bool
     }
 }
 
-/// Whether each block that stands below offset 4096 is one of the loop's.
-fn has_no_other_block<V: View>(view: &V, found: &BlockLoop) -> bool
+/// Whether each block that stands below offset 4096 of a view is one of its loop's. It takes no
+/// memory.
+pub fn has_no_other_block<V: View>(view: &V, found: &BlockLoop) -> bool
     requires loop_ { AreLoop (V.bytes view.now) found.now }
     ensures { (loop : List BlockView) → loop_of (V.bytes view.now) ≡ Ok loop
         → (result ≡ true) ↔ HasNoOtherBlock (V.bytes view.now) loop }

@@ -28,7 +28,7 @@ pub use boot_session::Recorder;
 pub use comparing::{is_same_decision, is_same_started};
 pub use cutting::each_cut;
 pub use error::SweepError;
-pub use firmness::firm;
+pub use firmness::{firm, has_no_other_block};
 pub use gating::ungated;
 pub use judge::Judge;
 pub use moves::Move;

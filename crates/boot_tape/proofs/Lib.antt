@@ -1,4 +1,3 @@
-mod PoolLemmas
 mod DoerLemmas
 pub mod MovingLemmas
 pub mod TraceLemmas

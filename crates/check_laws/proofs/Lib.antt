@@ -1,4 +1,3 @@
-mod PoolLemmas
 pub mod HostLemmas
 pub mod LawLemmas
 mod StagingLemmas

@@ -1,9 +1,9 @@
 -- Which steps are staged, as the code asks for it.
-use Rattle.std.proofs.Common.{◌≡◌, inl, inr, ℕ, ◌+◌, ◌*◌, ◌/◌, ◌<◌, not, Bool, true, false, List, [], ◌∷◌, ◌++◌, length, map, slice_get, Ok, Err, Some, option_map, refl, sym, ap, ◌∙◌, subst, arith}
+use Rattle.std.proofs.Common.{◌≡◌, inl, inr, ℕ, ◌+◌, ◌*◌, ◌/◌, ◌<◌, not, Bool, true, false, List, [], ◌∷◌, ◌++◌, length, slice_get, Ok, Err, Some, option_map, refl, sym, ap, ◌∙◌, subst, arith}
 use Rattle.std.specs.Prelude.{◌↔◌, ◌&&◌, ◌==◌, Contains, Result, is_err}
 use Rattle.std.specs.List.{AllByRecursion, list_all}
 use Rattle.std.proofs.lemmas.Bool.{and_from, and_parts, cases_lt, eq-eqb, eqb-true, ne_eqb}
-use Rattle.std.proofs.lemmas.Option.{get_or_from_slice_get, same_Some, slice_get-get_or, slice_get-map, slice_get_within}
+use Rattle.std.proofs.lemmas.Option.{same_Some, slice_get-map}
 use Rattle.pico_board.specs.declared.Step.{Step}
 use Rattle.pico_board.specs.declared.step.Step.TheVariants.{Erase, Program, Raise}
 use Rattle.pico_board.specs.declared.boot.Cpu.{Cpu}
@@ -12,7 +12,6 @@ use Rattle.pico_board.specs.Content.{Content, window_bytes}
 use Rattle.pico_board.specs.Sessions.{Gated}
 use Rattle.pico_board.specs.Steps.{after_all}
 use Rattle.block_codec.specs.Blocks.{BlockAt, BlockView}
-use Rattle.block_codec.proofs.AtLemmas.{block_at-stands}
 use Rattle.block_loop.specs.declared.fault.LoopFault.{LoopFault}
 use Rattle.block_loop.specs.Loop.{IsFirstBlock, IsLoop, loop_of}
 use Rattle.block_loop.specs.Offsets.{AreLoop, offsets_of}
@@ -26,37 +25,6 @@ use Rattle.check_laws.specs.Staged.{EndsOn, IsOffPage, Staged, is_off_page}
 
 same-loop : (x y : List BlockView) (r : Result (List BlockView) LoopFault) → r ≡ Ok x → r ≡ Ok y → x ≡ y
 same-loop x y r e f = cc
-
--- an element, by its place
-contains-at : {X : Type 0} (xs : List X) (i : ℕ) (x : X) → slice_get xs i ≡ Some x → Contains xs x
-contains-at xs i x at = (i, slice_get_within xs i x at, get_or_from_slice_get xs i x x at)
-
-contains-place : {X : Type 0} (xs : List X) (x : X) → Contains xs x → (k : ℕ) × (slice_get xs k ≡ Some x)
-contains-place xs x has = (has.0, slice_get-get_or xs has.0 x has.1 ∙ ap Some has.2)
-
-module _ (w offsets : List ℕ) (are : AreLoop w offsets) (loop : List BlockView) (closes : loop_of w ≡ Ok loop) where
-  -- a block of the loop, by its offset
-  block-in-loop : (x : ℕ) (b : BlockView) → BlockAt w x b → Contains offsets x → Contains loop b
-  block-in-loop x b stands has =
-      let place = contains-place offsets x has in
-      let found = at-place w offsets place.0 x are place.1 loop closes in
-      let same : found.0 ≡ b = same_Some found.0 b (sym found.2 ∙ block_at-stands w x b stands) in
-      contains-at loop place.0 b (found.1 ∙ ap Some same)
-
-  pub place-in-loop : (x : ℕ) (b : BlockView) → BlockAt w x b → Contains loop b → Contains offsets x
-  place-in-loop x b stands has =
-      let place = contains-place loop b has in
-      let blocks = are.blocks in
-      let same : blocks.0 ≡ loop = same-loop blocks.0 loop (loop_of w) (loop_of-loop w blocks.0 blocks.1) closes in
-      let offsets-are : map (λ (b : BlockView). b.at) loop ≡ offsets =
-      sym (ap (map (λ (b : BlockView). b.at)) same) ∙ blocks.2 in
-      contains-at offsets place.0 x
-      (sym (ap (λ xs. slice_get xs place.0) offsets-are)
-      ∙ (slice_get-map (λ (b : BlockView). b.at) loop place.0
-      ∙ (ap (option_map (λ (b : BlockView). b.at)) place.1 ∙ ap Some stands.placed)))
-
-  pub none-other : ((x : ℕ) (b : BlockView) → x < 4096 → BlockAt w x b → Contains offsets x) → HasNoOtherBlock w loop
-  none-other all = λ x b low stands. block-in-loop x b stands (all x b low stands)
 
 -- the first block, by the first of the offsets
 pub first-at : (w offsets : List ℕ) (x : ℕ) → AreLoop w offsets → slice_get offsets 0 ≡ Some x

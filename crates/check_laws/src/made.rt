@@ -18,7 +18,7 @@ use sector_pool::SectorPool;
 use std::alloc::{AllocError, Global};
 
 /// A pool with free sectors.
-#[tactic(auto, using(crate::proofs::PoolLemmas::one_free))]
+#[tactic(auto, using(boot_machine::proofs::BeginningLemmas::new_free))]
 pub(crate) fn pool_of(alloc: Global) -> Result<SectorPool, AllocError>
     ensures { IfOk result HasFree }
 {

@@ -1,59 +1,22 @@
 //! Whether steps write the page of an image's first block last.
 
-ghost use Rattle.std.specs.Prelude.{◌≡◌, ◌↔◌, ◌&&◌, not, ◌+◌, ◌/◌, ◌≤◌, Contains, IsTrue, List, Ok, length, true};
+ghost use Rattle.std.specs.Prelude.{◌≡◌, ◌↔◌, ◌&&◌, not, ◌+◌, ◌/◌, ◌≤◌, IsTrue, length, true};
 ghost use Rattle.std.specs.List.{list_all};
-ghost use Rattle.pico_board.specs.Content.{Content, window_bytes};
+ghost use Rattle.pico_board.specs.Content.{Content};
 ghost use Rattle.pico_board.specs.MemBoard.{state_of};
 ghost use Rattle.pico_board.specs.Sessions.{Gated};
 ghost use Rattle.pico_board.specs.Steps.{after_all};
-ghost use Rattle.block_codec.specs.Blocks.{BlockAt, BlockView};
-ghost use Rattle.block_loop.specs.Loop.{IsFirstBlock, IsLoop, loop_of};
+ghost use Rattle.block_codec.specs.Blocks.{BlockView};
+ghost use Rattle.block_loop.specs.Loop.{IsFirstBlock};
 ghost use Rattle.block_loop.specs.Offsets.{AreLoop};
-ghost use Rattle.boot_sweep.specs.Firms.{HasNoOtherBlock};
 ghost use Rattle.sector_pool.specs.Pool.{HasFree};
 ghost use Rattle.check_laws.specs.Staged.{EndsOn, Staged, is_off_page};
 
-use block_loop::{BlockLoop, block_at, walk};
+use block_loop::{BlockLoop, walk};
+use boot_sweep::has_no_other_block;
 use image_check::check;
-use pico_board::{Cpu, FlashView, MemBoard, PAGE, SECTOR, Step, View, Window};
+use pico_board::{Cpu, FlashView, MemBoard, PAGE, Step, View, Window};
 use sector_pool::SectorPool;
-
-/// Whether a block of the loop begins at this offset.
-fn is_in_loop(found: &BlockLoop, at: u32) -> bool
-    ensures { (result ≡ true) ↔ Contains found.now at }
-{
-    for i in 0..found.count() {
-        if found.at(i) == at {
-            return true;
-        }
-    }
-    false
-}
-
-/// Whether the block at this offset, if one stands there, is one of the loop's.
-fn has_no_other_at<V: View>(view: &V, found: &BlockLoop, at: u32) -> bool
-    ensures { (result ≡ true) ↔ ((b : BlockView) → BlockAt (V.bytes view.now) at b
-        → Contains found.now at) }
-{
-    match block_at(view, at) {
-        Some(_) => is_in_loop(found, at),
-        None => true,
-    }
-}
-
-/// Whether each block that stands below offset 4096 is one of the loop's.
-fn has_no_other_block<V: View>(view: &V, found: &BlockLoop) -> bool
-    requires loop_ { AreLoop (V.bytes view.now) found.now }
-    ensures { (loop : List BlockView) → loop_of (V.bytes view.now) ≡ Ok loop
-        → (result ≡ true) ↔ HasNoOtherBlock (V.bytes view.now) loop }
-{
-    for i in 0..SECTOR / 4 {
-        if !has_no_other_at(view, found, 4 * i) {
-            return false;
-        }
-    }
-    true
-}
 
 /// Whether the step programs no byte of this page.
 fn is_off_page(page: u32, step: &Step) -> bool
