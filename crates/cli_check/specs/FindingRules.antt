@@ -34,9 +34,9 @@ use Rattle.check_records.specs.GatedBlocks.{is_gated_block}
 use Rattle.cli_check.specs.Findings.{FindingsView, ImagesView}
 
 -- What a script that leads from the content c to z does to the images. It has the effect, whether
--- the table, the flash and the rows of z are others, and the windows that were written, with who did
--- it. It has what starts on z, what there is to fall back on, the images that are lost, and how many
--- rows the next boot raises.
+-- the table, the flash and the rows of z are others, and the windows that were written, with who
+-- did it. It has what starts on z, what there is to fall back on, the images that are lost, and how
+-- many rows the next boot raises.
 pub record AreImages (c : Content) (cpu : Cpu) (events : List EventView) (f : ImagesView)
     : Type 0 where
   pub effect : IsEffect c (trace c cpu events).last cpu f.effect
@@ -80,10 +80,10 @@ abbrev pub AreCuts : Content → Cpu → List EventView → List ℕ → (Conten
 AreCuts c cpu events pattern IsSo n = AreSoMany IsSo (script_cuts c cpu events pattern) n
 
 -- What is counted over the cuts of a script that leads from the content c to z. It has the cuts of
--- each class, and those on which a normal boot falls. It has those on which the image that starts on
--- z starts before its loose bytes are there, for each window with data those on which an image runs
--- on other data, and the mixed ones on which a boot raises a row. It has what stands against it that
--- the script is played again, and the caveats.
+-- each class, and those on which a normal boot falls. It has those on which the image that starts
+-- on z starts before its loose bytes are there, for each window with data those on which an image
+-- runs on other data, and the mixed ones on which a boot raises a row. It has what stands against
+-- it that the script is played again, and the caveats.
 pub record AreCountsOf (c : Content) (cpu : Cpu) (events : List EventView) (pattern : List ℕ)
     (windows : List DataWindow) (t : Tally) : Type 0 where
   pub former : AreCuts c cpu events pattern (HasClass c cpu events Former) t.former

@@ -107,8 +107,8 @@ update_flash = record {
   otp = rows_with 0 0;
 }
 
--- a flash of 12 KiB without a table. Its image has rollback version 24 and row 0x0c0, whose majority
--- is 5; its first block begins with its version, 16 bytes below the 4096th
+-- a flash of 12 KiB without a table. Its image has rollback version 24 and row 0x0c0, whose
+-- majority is 5; its first block begins with its version, 16 bytes below the 4096th
 abbrev pub late_rows_flash : Content
 late_rows_flash = record {
   flash = region 0xff0 (0x20082000 ∷ 0x10000201 ∷ [])

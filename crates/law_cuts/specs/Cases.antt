@@ -72,9 +72,9 @@ pub record EndsFor (c : Content) (cpu : Cpu) (events : List EventView) (result :
       (trace c cpu events).last cpu class
   pub told : IsClassFor result class
 
--- the script is one session of a host, whose boots write nothing. Its steps keep to the slot w, where
--- a normal boot on c starts no image, are gated on it, and leave the table that there was. No premise
--- is on accidental images.
+-- the script is one session of a host, whose boots write nothing. Its steps keep to the slot w,
+-- where a normal boot on c starts no image, are gated on it, and leave the table that there was. No
+-- premise is on accidental images.
 pub record IsGatedScript (c : Content) (cpu : Cpu) (events : List EventView) (w : Window)
     : Type 0 where
   pub right : IsContent c

@@ -10,8 +10,8 @@ is_listed rows.WriteRest = false
 is_listed rows.ImageBlock = false
 is_listed row = true
 
--- a line of the row is in words: it does not give its record by all of its bytes, and takes no bytes
--- of an image
+-- a line of the row is in words: it does not give its record by all of its bytes, and takes no
+-- bytes of an image
 abbrev pub is_in_words : Row → Bool
 is_in_words rows.WriteRange = false
 is_in_words rows.WriteRest = false

@@ -1,5 +1,5 @@
--- A boot of a script, or a buy, and the steps of it that are done: all, or the first ones where power is
--- lost behind these.
+-- A boot of a script, or a buy, and the steps of it that are done: all, or the first ones where
+-- power is lost behind these.
 use Rattle.std.specs.Prelude.{◌≡◌, ◌++◌, List}
 use Rattle.pico_board.specs.declared.Step.{Step}
 use Rattle.pico_board.specs.declared.boot.Cpu.{Cpu}
@@ -17,8 +17,8 @@ pub record BeginsBoot (cpu : Cpu) (b : BootMade) (choice : Choice) : Type 0 wher
   pub rest : List Step
   pub begins : start_steps b.before cpu choice ≡ b.done ++ rest
 
--- the image that the machine runs buys itself on the machine's content, and completes the first steps
--- of the buy
+-- the image that the machine runs buys itself on the machine's content, and completes the first
+-- steps of the buy
 pub record BeginsBuy (n : MachineView) (b : BuyMade) : Type 0 where
   pub before : b.before ≡ n.content
   pub rest : List Step

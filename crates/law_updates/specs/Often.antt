@@ -1,4 +1,5 @@
--- A host's script that is played again after each of several losses of power, with boots in between.
+-- A host's script that is played again after each of several losses of power, with boots in
+-- between.
 use Rattle.std.specs.Prelude.{◌≡◌, ℕ, zero, suc, List, [], ◌++◌}
 use Rattle.std.specs.List.{AllByRecursion}
 use Rattle.pico_board.specs.declared.Step.{Step}

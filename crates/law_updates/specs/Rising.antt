@@ -15,8 +15,9 @@ use Rattle.law_boot_cuts.specs.Examples.{rows_image, rows_sector, three_raises, 
 use Rattle.law_boot_cuts.specs.Running.{buys}
 
 -- a flash of five sectors: a table of three partitions of one sector each, and in these an image
--- whose definition begins with this IMAGE_TYPE word, of this rollback version with row 0x0c0, and two
--- of rollback version 0 with the row after that triple; the triple of row 0x0c0 has these values
+-- whose definition begins with this IMAGE_TYPE word, of this rollback version with row 0x0c0, and
+-- two of rollback version 0 with the row after that triple; the triple of row 0x0c0 has these
+-- values
 abbrev pub rising_flash : ℕ → ℕ → ℕ → ℕ → ℕ → Content
 rising_flash image_type version a b c = record {
   flash = region 0x2000 (framed (three_parts (sectors 2 2) 0xfc000000 (sectors 3 3) 0xfc000000

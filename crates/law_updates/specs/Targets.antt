@@ -1,5 +1,5 @@
--- Where the blocks of a script go that is played on two contents, c and d: on c as the host meant it,
--- on d after a loss of power.
+-- Where the blocks of a script go that is played on two contents, c and d: on c as the host meant
+-- it, on d after a loss of power.
 use Rattle.std.specs.Prelude.{◌≡◌, ◌⊎◌, ⊤, ℕ, Bool, false, MatchBool, List, [], ◌∷◌, length, Option, Some, None, Result, Ok, Err}
 use Rattle.pico_board.specs.declared.boot.Cpu.{Cpu}
 use Rattle.pico_board.specs.declared.boot.BootKind.{BootKind}

@@ -36,7 +36,8 @@ pub fn premises_of_the_law_of_boots()
     ensures chosen { Chosen a_rise.before Arm a_rise.kind (Start rising_choice) }
     ensures former { Chosen a_rise.before Arm Normal (Start rising_choice) }
     ensures cut { IsCutAt a_rise.before a_rise.done 1 (Raise 0x0c1 3) (rising_images 3 1 0) }
-    ensures no_accident { LeavesNoAccidentalImage a_rise.before (after_all a_rise.before a_rise.done)
+    ensures no_accident { LeavesNoAccidentalImage a_rise.before
+        (after_all a_rise.before a_rise.done)
         (rising_images 3 1 0) Arm rising_choice (Raise 0x0c1 3) }
 {
     a_boot_that_raises_a_row();
