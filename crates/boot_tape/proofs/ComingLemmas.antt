@@ -1,5 +1,5 @@
 -- What comes of an event on a machine that traces, of which no cut is armed.
-use Rattle.std.proofs.Common.{◌≡◌, ℕ, ◌-◌, ◌+◌, Bool, true, false, List, [], ◌∷◌, ◌++◌, length, Option, Some, None, refl, sym, ap, ◌∙◌, subst, arith, append_assoc, append-nil, inl, inr}
+use Rattle.std.proofs.Common.{◌≡◌, ℕ, ◌-◌, Bool, true, false, List, [], ◌∷◌, ◌++◌, length, Option, Some, None, refl, sym, ap, ◌∙◌, subst, arith, append_assoc, append-nil, inl, inr}
 use Rattle.std.specs.Prelude.{◌&&◌, ◌==◌, ⊤, Result, Ok, Err, if◌then◌else◌}
 use Rattle.std.specs.Bool.{OnTrue}
 use Rattle.std.proofs.lemmas.Bool.{and_parts}
@@ -42,7 +42,7 @@ use Rattle.boot_machine.specs.Standing.{IsStep, Serves, Stands, StandsAt, is_boo
 use Rattle.boot_tape.specs.declared.notes.Behind.{Behind}
 use Rattle.boot_session.specs.declared.recorder.Recorder.{Recorder}
 use Rattle.boot_tape.specs.Playing.{HasCome, IsStepped, asked_effect, behind_in, recorded_state}
-use Rattle.boot_tape.specs.Traces.{behind, behind_asked, behind_other, behind_served, image_of, outcome_before, own_steps, served_in, served_steps}
+use Rattle.boot_tape.specs.Traces.{behind_asked, behind_other, behind_served, image_of, outcome_before, own_steps, served_in, served_steps}
 use Rattle.boot_session.specs.Recordings.{IsHistoryOf, IsRecordOf, first_steps}
 use Rattle.boot_tape.proofs.PlayLemmas.{no-loss, records-more, stepped-by}
 

@@ -1,5 +1,5 @@
 -- What is noted of an event: its own steps are the first ones.
-use Rattle.std.proofs.Common.{◌≡◌, ℕ, ◌-◌, ◌+◌, ◌≤◌, Bool, true, false, List, [], ◌∷◌, ◌++◌, length, take, Option, Some, None, refl, sym, ap, ◌∙◌, subst, arith, append-nil, length-append}
+use Rattle.std.proofs.Common.{◌≡◌, ℕ, ◌-◌, ◌≤◌, Bool, true, false, List, [], ◌∷◌, ◌++◌, length, take, Option, Some, None, refl, sym, ap, ◌∙◌, subst, arith, append-nil, length-append}
 use Rattle.std.specs.Prelude.{◌||◌, if◌then◌else◌, min, nat_lt, replicate}
 use Rattle.std.proofs.lemmas.List.{length-replicate, length-take}
 use Rattle.pico_board.specs.declared.Step.{Step}

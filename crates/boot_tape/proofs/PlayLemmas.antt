@@ -385,12 +385,12 @@ made-anew machine tape m mid all left number to off stands none = record {
 }
 
 -- before the first event
-pub play-first : (machine : Parts (Recorder MemBoard)) (tape : Tape) (moves : List Move) (c : Content) (cpu : Cpu)
-    (events : List EventView) → moves ≡ tape.moves.items → tape.moves.items ≡ [] → tape.numbers.items ≡ []
+pub play-first : (machine : Parts (Recorder MemBoard)) (tape : Tape) (c : Content) (cpu : Cpu)
+    (events : List EventView) → tape.moves.items ≡ [] → tape.numbers.items ≡ []
     → tape.done ≡ 0 → tape.armed ≡ None → tape.notes.items ≡ []
-    → Stands recorded_state machine (powerless (after_moves c (moves_from moves)) cpu)
+    → Stands recorded_state machine (powerless c cpu)
     → HasRecorded machine.board [] → IsPlay machine tape (powerless c cpu) events events 0
-play-first machine tape moves c cpu events same none_yet numbers done armed notes stands none =
+play-first machine tape c cpu events none_yet numbers done armed notes stands none =
     made-anew machine tape (powerless c cpu) (powerless c cpu) events events 0 (record {
       numbers = ap (λ ns. ns ++ step_numbers 0 (powerless c cpu) events) numbers;
       moves = ap (λ ms. moves_from ms ++ moves_in (powerless c cpu) events) none_yet;
@@ -402,7 +402,8 @@ play-first machine tape moves c cpu events same none_yet numbers done armed note
       last = refl;
       counted = done ∙ ap (λ ms. done_count (moves_from ms)) (sym none_yet);
     }) refl
-    (subst (λ ms. Stands recorded_state machine (powerless (after_moves c (moves_from ms)) cpu)) same stands) none
+    (subst (λ ms. Stands recorded_state machine (powerless (after_moves c (moves_from ms)) cpu)) (sym none_yet) stands)
+    none
 
 take-nothing : {X : Type 0} (n : ℕ) → (let none : List X = [] in take n none ≡ none)
 take-nothing zero = refl
@@ -597,7 +598,7 @@ fresh-in om nm mid e n k read done read_is long =
     (subst (λ xs. All P xs) (sym (read_is ∙ done.kept)) (All-take P 262145 (om.board.steps.items ++ e.steps) all)))
 
 -- a part up to the end
-pub rest-is : (k : ℕ) (xs : List Step) → take (length xs - k) (drop k xs) ≡ drop k xs
+pub rest-is : {X : Type 0} (k : ℕ) (xs : List X) → take (length xs - k) (drop k xs) ≡ drop k xs
 rest-is k xs = take_all (length xs - k) (drop k xs) (let long = length-drop k xs in omega (arith, long))
 
 pub if-ok : {A E : Type 0} (r : Result A E) (P Q : A → Type 0) → ((a : A) → P a → Q a) → IfOk r P → IfOk r Q

@@ -1,5 +1,5 @@
 -- What the steps of an event come to where a cut of the script is armed.
-use Rattle.std.specs.Prelude.{ℕ, ◌==◌, Bool, true, false, if◌then◌else◌, List, [], ◌∷◌, Option, Some, None}
+use Rattle.std.specs.Prelude.{◌==◌, Bool, true, false, if◌then◌else◌, List, [], ◌∷◌, Option, Some, None}
 use Rattle.pico_board.specs.declared.Step.{Step}
 use Rattle.pico_board.specs.Cuts.{Cut, nearer}
 use Rattle.boot_sweep.specs.Moving.{MoveView, Done, Torn}

@@ -5,6 +5,7 @@
 //! what the loss of power leaves in `pico_board`.
 #![tactic(auto)]
 
+mod boards;
 mod copying;
 pub mod examples;
 pub mod laws;

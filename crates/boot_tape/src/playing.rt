@@ -1,6 +1,6 @@
 //! The play of a script, which finds what it does to a board.
 
-ghost use Rattle.std.specs.Prelude.{◌≡◌, ◌+◌, ◌≤◌, ◌<◌, ◌∷◌, ◌&&◌, [], true, false, IfOk, OnOk, IsTrue, MatchOption, None, Some, List, length, option_map};
+ghost use Rattle.std.specs.Prelude.{◌≡◌, ◌+◌, ◌≤◌, ◌<◌, ◌∷◌, ◌++◌, ◌&&◌, [], true, false, IfOk, OnOk, IsTrue, MatchOption, None, Some, List, length, option_map};
 ghost use Rattle.pico_board.specs.Board.{with_power};
 ghost use Rattle.pico_board.specs.MemBoard.{state_of};
 ghost use Rattle.boot_script.specs.Events.{EventView, IsWritableEvent, event_from};
@@ -13,11 +13,12 @@ ghost use Rattle.boot_machine.specs.Serving.{is_hosted};
 ghost use Rattle.boot_machine.specs.Standing.{Stands, is_bootsel};
 ghost use Rattle.boot_machine.specs.Plays.{powerless};
 ghost use Rattle.boot_tape.specs.Traces.{behind_asked};
-ghost use Rattle.boot_tape.specs.Moving.{AreMovesIn, after_moves, moves_from};
+ghost use Rattle.boot_tape.specs.Boards.{IsSecond};
+ghost use Rattle.boot_tape.specs.Moving.{AreMovesIn, MoveView, after_moves, moves_from};
 ghost use Rattle.boot_tape.specs.Playing.{HasCome, HasFollowed, IsLong, IsPlay, IsStepped, IsTapeIn, IsTraceOf, IsTracedTooLong, asked_effect, behind_in, cut_from, cut_in, recorded_state};
 
+use crate::boards::Boards;
 use crate::copying::copy_of;
-use crate::moving::do_moves;
 use crate::notes::{Behind, Came};
 use crate::trace::{ArmedCut, Tape, Trace};
 use arrayvec::ArrayVec;
@@ -32,22 +33,18 @@ use sector_pool::SectorPool;
 use std::alloc::{AllocError, Global};
 use uf2_place::Download;
 
-/// A machine without power, over a copy of the board. These moves are done on the copy, and no cut
-/// is ever armed on it.
+/// A machine without power, over a copy of the board, on which no cut is ever armed.
 fn machine_of(
     alloc: Global,
     board: &MemBoard,
-    moves: &[Move<'_>],
     cpu: Cpu,
 ) -> Result<Machine<Recorder<MemBoard>>, AllocError>
     requires power { IsTrue (state_of board.now).powered }
-    requires range { AreMovesIn (length (state_of board.now).content.flash) moves.now }
     ensures stands { IfOk result (λ machine. Stands recorded_state machine
-        (powerless (after_moves (state_of board.now).content (moves_from moves.now)) cpu)) }
+        (powerless (state_of board.now).content cpu)) }
     ensures none { IfOk result (λ machine. HasRecorded machine.board []) }
 {
-    let mut copy = copy_of(alloc, board)?;
-    do_moves(&mut copy, moves);
+    let copy = copy_of(alloc, board)?;
     let units = ArrayVec::new();
     let recorder = Recorder::make(alloc, copy, units)?;
     let pool = SectorPool::make(alloc, 2)?;
@@ -194,6 +191,8 @@ fn play<'a>(
     requires short { tape.old.done ≤ 262144 }
     requires play { (m : MachineView) × (all : List EventView) × (left : List EventView)
         × IsPlay machine.old tape.old m all left number }
+    ensures grown { OnOk result ((more : List MoveView)
+        × (moves_from tape.new.moves.items ≡ moves_from tape.old.moves.items ++ more)) }
     ensures ready { OnOk result ((m : MachineView) (all left : List EventView)
         → IsPlay machine.old tape.old m all left number
         → IsTapeIn (length m.content.flash) tape.old
@@ -212,23 +211,31 @@ fn play<'a>(
     Ok(whole)
 }
 
-/// The machine made anew, without power, over a copy of the board before the script, on which the
-/// moves so far are done. The old machine is gone before the copy is made.
+/// The machine made anew, without power, over a copy of the second board, on which the moves so far
+/// are done. The old machine is gone before the copy is made.
 fn anew(
     alloc: Global,
-    start: &MemBoard,
+    boards: &mut Boards<'_>,
     machine: Machine<Recorder<MemBoard>>,
     moves: &[Move<'_>],
     cpu: Cpu,
 ) -> Result<Machine<Recorder<MemBoard>>, AllocError>
-    requires power { IsTrue (state_of start.now).powered }
-    requires range { AreMovesIn (length (state_of start.now).content.flash) moves.now }
-    ensures stands { IfOk result (λ next. Stands recorded_state next
-        (powerless (after_moves (state_of start.now).content (moves_from moves.now)) cpu)) }
+    requires power { IsTrue (state_of boards.old.start.now).powered }
+    requires range { AreMovesIn (length (state_of boards.old.start.now).content.flash) moves.now }
+    requires second { IsSecond (state_of boards.old.start.now).content (moves_from moves.now)
+        boards.old.second }
+    ensures stands { IfOk result (λ next. Stands recorded_state next (powerless
+        (after_moves (state_of boards.old.start.now).content (moves_from moves.now)) cpu)) }
     ensures none { IfOk result (λ next. HasRecorded next.board []) }
+    ensures second { OnOk result (IsSecond (state_of boards.old.start.now).content
+        (moves_from moves.now) boards.new.second) }
+    ensures start { boards.new.start ≡ boards.old.start }
 {
     drop(machine);
-    machine_of(alloc, start, moves, cpu)
+    let second = boards.take_with(alloc, moves)?;
+    let next = machine_of(alloc, &second.board, cpu)?;
+    boards.second = Some(second);
+    Ok(next)
 }
 
 /// Plays an event of this number on a machine, and answers the machine that goes on. The armed cut
@@ -236,26 +243,32 @@ fn anew(
 /// machine whose power the cut loses is made anew.
 fn follow<'a>(
     alloc: Global,
-    start: &MemBoard,
+    boards: &mut Boards<'_>,
     machine: Machine<Recorder<MemBoard>>,
     tape: &mut Tape<'a>,
     cpu: Cpu,
     event: &Event<'a>,
     number: u32,
 ) -> Result<Machine<Recorder<MemBoard>>, AllocError>
-    requires power { IsTrue (state_of start.now).powered }
+    requires power { IsTrue (state_of boards.old.start.now).powered }
     requires writable { IsWritableEvent (event_from event.now) }
-    requires ready { IsTapeIn (length (state_of start.now).content.flash) tape.old }
+    requires ready { IsTapeIn (length (state_of boards.old.start.now).content.flash) tape.old }
     requires short { tape.old.done ≤ 262144 }
-    requires play { (all : List EventView) × (left : List EventView)
-        × IsPlay machine tape.old (powerless (state_of start.now).content cpu) all left number }
-    ensures ready { OnOk result (IsTapeIn (length (state_of start.now).content.flash) tape.new) }
+    requires second { IsSecond (state_of boards.old.start.now).content
+        (moves_from tape.old.moves.items) boards.old.second }
+    requires play { (all : List EventView) × (left : List EventView) × IsPlay machine tape.old
+        (powerless (state_of boards.old.start.now).content cpu) all left number }
+    ensures ready { OnOk result
+        (IsTapeIn (length (state_of boards.old.start.now).content.flash) tape.new) }
+    ensures second { OnOk result (IsSecond (state_of boards.old.start.now).content
+        (moves_from tape.new.moves.items) boards.new.second) }
+    ensures start { boards.new.start ≡ boards.old.start }
     ensures played { IfOk result (λ next. (all left : List EventView)
-        → IsPlay machine tape.old (powerless (state_of start.now).content cpu) all
+        → IsPlay machine tape.old (powerless (state_of boards.old.start.now).content cpu) all
         (event_from event.now ∷ left) number
-        → IsLong tape.new (powerless (state_of start.now).content cpu) all
+        → IsLong tape.new (powerless (state_of boards.old.start.now).content cpu) all
         × (tape.new.done ≤ 262144 → IsPlay next tape.new
-        (powerless (state_of start.now).content cpu) all left (number + 1))) }
+        (powerless (state_of boards.old.start.now).content cpu) all left (number + 1))) }
 {
     let mut machine = machine;
     if let Some(cut) = armed_by(event) {
@@ -265,7 +278,7 @@ fn follow<'a>(
     if play(&mut machine, tape, event, number)? {
         return Ok(machine);
     }
-    let next = anew(alloc, start, machine, &tape.moves, cpu)?;
+    let next = anew(alloc, boards, machine, &tape.moves, cpu)?;
     Ok(next)
 }
 
@@ -292,10 +305,11 @@ pub fn trace_on<'a>(
         (IsTraceOf (state_of board.now).content cpu (script_events script.now.bytes.now))) }
 {
     let mut tape = Tape::begin(alloc);
-    let mut machine = machine_of(alloc, board, &tape.moves, cpu)?;
+    let mut boards = Boards::begin(board);
+    let mut machine = machine_of(alloc, board, cpu)?;
     let mut number = 0;
     for event in script.events() {
-        machine = follow(alloc, board, machine, &mut tape, cpu, &event, number)?;
+        machine = follow(alloc, &mut boards, machine, &mut tape, cpu, &event, number)?;
         if tape.done > STEP_LIMIT {
             return Ok(None);
         }

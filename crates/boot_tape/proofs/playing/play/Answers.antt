@@ -3,6 +3,10 @@ use Rattle.pico_board.specs.declared.Step.{Step}
 use Rattle.boot_script.specs.Events.{event_from}
 use Rattle.boot_machine.specs.Moves.{effect}
 use Rattle.boot_sweep.specs.declared.moves.Move.{Move}
+use Rattle.boot_tape.specs.declared.trace.Tape.{Tape}
+use Rattle.boot_tape.specs.CutMoves.{cut_moves}
+use Rattle.boot_tape.specs.Moving.{moves_from}
+use Rattle.boot_tape.specs.Playing.{told_of}
 use Rattle.boot_tape.proofs.PlayLemmas.{done-by, former-within, fresh-in, long-as, play-on, rest-is}
 use Rattle.boot_tape.proofs.playing.play.Goals as goal
 
@@ -63,3 +67,9 @@ returns-clause-played c =
     (c.deref.ensures.value ∙ ap (λ t. t.steps.items) c.board-2.ensures))) c.in_ok-whole.ensures.taken c.requires.short
     (ap (λ (xs : List Move). length xs) c.as_slice-moved.ensures.value) c.in_ok-note.ensures.same
     c.in_ok-note.ensures.noted
+
+pub returns-clause-grown : goal.returns-clause-grown
+returns-clause-grown c =
+    let fresh = cut_moves (told_of c.args.tape.now) (take (length c.deref.result.now - length c.as_slice-former.result.now)
+    (drop (length c.as_slice-former.result.now) c.deref.result.now)) in
+    (fresh.moves, ap (λ (t : Tape). moves_from t.moves.items) c.in_ok-note.ensures.same ∙ c.in_ok-whole.ensures.taken.moves)

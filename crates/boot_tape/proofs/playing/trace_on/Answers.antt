@@ -1,19 +1,17 @@
-use Rattle.std.proofs.Common.{◌∙◌, List, ap, length, subst, sym, arith}
+use Rattle.std.proofs.Common.{◌+◌, ◌<◌, ◌∙◌, List, ap, length, subst, sym, arith}
+use Rattle.pico_board.specs.declared.mem_board.MemBoard.{MemBoard}
 use Rattle.pico_board.specs.MemBoard.{state_of}
 use Rattle.boot_script.specs.Events.{EventView}
 use Rattle.boot_script.specs.Scripts.{script_events}
 use Rattle.boot_script.proofs.JudgingLemmas.{script-formed}
 use Rattle.boot_script.proofs.WalkLemmas.{few-records}
 use Rattle.boot_machine.specs.Plays.{powerless}
-use Rattle.boot_tape.specs.Moving.{AreMovesIn}
-use Rattle.boot_tape.specs.Playing.{IsPlay}
+use Rattle.boot_tape.specs.Boards.{IsSecond}
+use Rattle.boot_tape.specs.Moving.{moves_from}
+use Rattle.boot_tape.specs.Playing.{IsPlay, IsTapeIn}
+use Rattle.boot_tape.specs.Traces.{traced}
 use Rattle.boot_tape.proofs.PlayLemmas.{begins-in, play-first, traced-end}
 use Rattle.boot_tape.proofs.playing.trace_on.Goals as goal
-
-pub machine_of-requires-clause-range : goal.machine_of-requires-clause-range
-machine_of-requires-clause-range c =
-    subst (λ ms. AreMovesIn (length (state_of c.args.board.now).content.flash) ms)
-    (sym (c.deref.ensures.value ∙ c.begin-tape.ensures.none)) tt
 
 pub loop-event-init : goal.loop-event-init
 loop-event-init c =
@@ -29,8 +27,10 @@ loop-event-init c =
       few = omega (arith, few, size);
       ready = begins-in (length content.flash) tape begun.none begun.unarmed;
       short = omega (arith, none);
+      second = subst (λ o. IsSecond content (moves_from tape.moves.items) o) (sym c.begin-boards.ensures.second) tt;
+      start = c.begin-boards.ensures.start;
       play = subst (λ es. IsPlay c.in_ok-machine.machine tape (powerless content c.args.cpu) events es 0) all
-          (play-first c.in_ok-machine.machine tape c.deref.result.now content c.args.cpu events c.deref.ensures.value
+          (play-first c.in_ok-machine.machine tape content c.args.cpu events
           begun.none begun.numbers begun.done begun.unarmed begun.notes c.in_ok-machine.ensures.stands
           c.in_ok-machine.ensures.none);
     }
@@ -44,26 +44,39 @@ follow-requires-clause-writable c = c.in-Some.ensures.steps.1
 pub loop-event-preserved : goal.loop-event-preserved
 loop-event-preserved c =
     let events = script_events c.args.script.now.bytes.now in
-    let m = powerless (state_of c.args.board.now).content c.args.cpu in
+    let same = c.loop-event.invariant.start in
+    let m = powerless (state_of c.loop-event.boards.start.now).content c.args.cpu in
     let size = ap (λ (es : List EventView). length es) c.in-Some.ensures.steps.0 in
     let few = c.loop-event.invariant.few in record {
       few = omega (arith, few, size);
-      ready = c.in_ok-machine-2.ensures.ready;
+      ready = subst (λ (b : MemBoard). IsTapeIn (length (state_of b).content.flash) c.follow.new.tape) same
+          c.in_ok-machine-2.ensures.ready;
       short = c.if-tape-gt-STEP_LIMIT.false;
-      play = (c.in_ok-machine-2.ensures.played events c.next.new.self
+      second = subst (λ (b : MemBoard). IsSecond (state_of b).content (moves_from c.follow.new.tape.moves.items)
+          c.follow.new.boards.second) same c.in_ok-machine-2.ensures.second;
+      start = ap (λ s. s.now) c.follow.ensures.start ∙ same;
+      play = subst (λ (b : MemBoard). IsPlay c.in_ok-machine-2.machine c.follow.new.tape
+          (powerless (state_of b).content c.args.cpu) events c.next.new.self (c.loop-event.number + 1)) same
+          ((c.in_ok-machine-2.ensures.played events c.next.new.self
           (subst (λ es. IsPlay c.loop-event.machine c.loop-event.tape m events es c.loop-event.number)
           c.in-Some.ensures.steps.0
-          c.loop-event.invariant.play)).1 c.if-tape-gt-STEP_LIMIT.false;
+          (subst (λ (b : MemBoard). IsPlay c.loop-event.machine c.loop-event.tape
+          (powerless (state_of b).content c.args.cpu) events c.loop-event.event-iterator c.loop-event.number) (sym same)
+          c.loop-event.invariant.play))).1 c.if-tape-gt-STEP_LIMIT.false);
     }
 
 pub returns-then-tape-gt-STEP_LIMIT : goal.returns-then-tape-gt-STEP_LIMIT
 returns-then-tape-gt-STEP_LIMIT c =
     let events = script_events c.args.script.now.bytes.now in
-    let m = powerless (state_of c.args.board.now).content c.args.cpu in
-    (c.in_ok-machine-2.ensures.played events c.next.new.self
+    let same = c.loop-event.invariant.start in
+    let m = powerless (state_of c.loop-event.boards.start.now).content c.args.cpu in
+    subst (λ (b : MemBoard). 262144 < length (traced (powerless (state_of b).content c.args.cpu) events)) same
+    ((c.in_ok-machine-2.ensures.played events c.next.new.self
     (subst (λ es. IsPlay c.loop-event.machine c.loop-event.tape m events es c.loop-event.number)
     c.in-Some.ensures.steps.0
-    c.loop-event.invariant.play)).0 c.if-tape-gt-STEP_LIMIT.true
+    (subst (λ (b : MemBoard). IsPlay c.loop-event.machine c.loop-event.tape
+    (powerless (state_of b).content c.args.cpu) events c.loop-event.event-iterator c.loop-event.number) (sym same)
+    c.loop-event.invariant.play))).0 c.if-tape-gt-STEP_LIMIT.true)
 
 pub returns : goal.returns
 returns c =
