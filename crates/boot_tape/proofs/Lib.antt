@@ -1,4 +1,5 @@
 mod DoerLemmas
+mod CheckpointLemmas
 pub mod MovingLemmas
 pub mod TraceLemmas
 pub mod NoteLemmas

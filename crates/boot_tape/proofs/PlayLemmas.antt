@@ -2,7 +2,7 @@
 use Rattle.std.proofs.Common.{◌≡◌, ◌≢◌, ℕ, ◌+◌, ◌-◌, ◌≤◌, Bool, true, false, zero, suc, List, [], ◌∷◌, ◌++◌, length, replicate, take, drop, Option, Some, None, refl, sym, ap, ◌∙◌, subst, arith, inl, inr, append_assoc, length-append}
 use Rattle.std.specs.Prelude.{All, IfOk, Result, Ok, Err, if◌then◌else◌, min, option_map}
 use Rattle.std.specs.List.{AllByRecursion}
-use Rattle.std.proofs.lemmas.List.{append-nil, length-drop, length-map, length-take, take-append-drop, take_all}
+use Rattle.std.proofs.lemmas.List.{append-nil, length-map, length-take, take-append-drop, take_all}
 use Rattle.std.proofs.lemmas.List.Elements.{All-drop, All-from_recursion, All-take}
 use Rattle.pico_board.proofs.CuttingLemmas.{length-after_all}
 use Rattle.std.proofs.Math.Seq.{drop-append_seam, take-append-add}
@@ -596,10 +596,6 @@ fresh-in om nm mid e n k read done read_is long =
     (subst (λ j. AllByRecursion (IsStepIn j) (om.board.steps.items ++ e.steps)) same done.record_.inside) in
     All-take P (length read - k) (drop k read) (All-drop P k read
     (subst (λ xs. All P xs) (sym (read_is ∙ done.kept)) (All-take P 262145 (om.board.steps.items ++ e.steps) all)))
-
--- a part up to the end
-pub rest-is : {X : Type 0} (k : ℕ) (xs : List X) → take (length xs - k) (drop k xs) ≡ drop k xs
-rest-is k xs = take_all (length xs - k) (drop k xs) (let long = length-drop k xs in omega (arith, long))
 
 pub if-ok : {A E : Type 0} (r : Result A E) (P Q : A → Type 0) → ((a : A) → P a → Q a) → IfOk r P → IfOk r Q
 if-ok (Ok a) P Q f h = f a h

@@ -3,6 +3,6 @@ pub mod CutMoves
 pub mod Doers
 pub mod Traces
 pub mod Moving
-pub mod Boards
+pub mod Checkpoints
 pub mod Playing
 pub mod Examples

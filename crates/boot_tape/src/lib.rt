@@ -5,7 +5,7 @@
 //! what the loss of power leaves in `pico_board`.
 #![tactic(auto)]
 
-mod boards;
+mod checkpoints;
 mod copying;
 pub mod examples;
 pub mod laws;

@@ -13,11 +13,11 @@ ghost use Rattle.boot_machine.specs.Serving.{is_hosted};
 ghost use Rattle.boot_machine.specs.Standing.{Stands, is_bootsel};
 ghost use Rattle.boot_machine.specs.Plays.{powerless};
 ghost use Rattle.boot_tape.specs.Traces.{behind_asked};
-ghost use Rattle.boot_tape.specs.Boards.{IsSecond};
+ghost use Rattle.boot_tape.specs.Checkpoints.{IsCheckpoint};
 ghost use Rattle.boot_tape.specs.Moving.{AreMovesIn, MoveView, after_moves, moves_from};
 ghost use Rattle.boot_tape.specs.Playing.{HasCome, HasFollowed, IsLong, IsPlay, IsStepped, IsTapeIn, IsTraceOf, IsTracedTooLong, asked_effect, behind_in, cut_from, cut_in, recorded_state};
 
-use crate::boards::Boards;
+use crate::checkpoints::{Checkpoint, caught_up};
 use crate::copying::copy_of;
 use crate::notes::{Behind, Came};
 use crate::trace::{ArmedCut, Tape, Trace};
@@ -32,6 +32,15 @@ use ram_start::Ram;
 use sector_pool::SectorPool;
 use std::alloc::{AllocError, Global};
 use uf2_place::Download;
+
+/// What plays a script.
+#[derive(Drop)]
+struct Player {
+    /// The machine, over a board of its own.
+    machine: Machine<Recorder<MemBoard>>,
+    /// A checkpoint, once a cut of the script's own fell due.
+    kept: Option<Checkpoint>,
+}
 
 /// A machine without power, over a copy of the board, on which no cut is ever armed.
 fn machine_of(
@@ -211,74 +220,73 @@ fn play<'a>(
     Ok(whole)
 }
 
-/// The machine made anew, without power, over a copy of the second board, on which the moves so far
-/// are done. The old machine is gone before the copy is made.
+/// The player made anew: a machine without power, over a copy of a checkpoint on which the moves so
+/// far are done. The old machine is gone before a copy is made.
 fn anew(
     alloc: Global,
-    boards: &mut Boards<'_>,
-    machine: Machine<Recorder<MemBoard>>,
+    start: &MemBoard,
+    player: Player,
     moves: &[Move<'_>],
     cpu: Cpu,
-) -> Result<Machine<Recorder<MemBoard>>, AllocError>
-    requires power { IsTrue (state_of boards.old.start.now).powered }
-    requires range { AreMovesIn (length (state_of boards.old.start.now).content.flash) moves.now }
-    requires second { IsSecond (state_of boards.old.start.now).content (moves_from moves.now)
-        boards.old.second }
-    ensures stands { IfOk result (λ next. Stands recorded_state next (powerless
-        (after_moves (state_of boards.old.start.now).content (moves_from moves.now)) cpu)) }
-    ensures none { IfOk result (λ next. HasRecorded next.board []) }
-    ensures second { OnOk result (IsSecond (state_of boards.old.start.now).content
-        (moves_from moves.now) boards.new.second) }
-    ensures start { boards.new.start ≡ boards.old.start }
+) -> Result<Player, AllocError>
+    requires power { IsTrue (state_of start.now).powered }
+    requires range { AreMovesIn (length (state_of start.now).content.flash) moves.now }
+    requires kept { IsCheckpoint (state_of start.now).content (moves_from moves.now)
+        player.kept }
+    ensures stands { IfOk result (λ next. Stands recorded_state next.machine
+        (powerless (after_moves (state_of start.now).content (moves_from moves.now)) cpu)) }
+    ensures none { IfOk result (λ next. HasRecorded next.machine.board []) }
+    ensures kept { IfOk result (λ next.
+        IsCheckpoint (state_of start.now).content (moves_from moves.now) next.kept) }
 {
+    let Player { machine, kept } = player;
     drop(machine);
-    let second = boards.take_with(alloc, moves)?;
-    let next = machine_of(alloc, &second.board, cpu)?;
-    boards.second = Some(second);
-    Ok(next)
+    let point = caught_up(alloc, start, kept, moves)?;
+    Ok(Player {
+        machine: machine_of(alloc, &point.board, cpu)?,
+        kept: Some(point),
+    })
 }
 
-/// Plays an event of this number on a machine, and answers the machine that goes on. The armed cut
-/// stands beside the machine, whose board does all steps of the event, so that they are known. A
-/// machine whose power the cut loses is made anew.
+/// Plays an event of this number, and answers the player that goes on. The armed cut of the script
+/// is never armed on the machine, which so completes all steps of the event; a machine whose power
+/// the cut loses is made anew.
 fn follow<'a>(
     alloc: Global,
-    boards: &mut Boards<'_>,
-    machine: Machine<Recorder<MemBoard>>,
+    start: &MemBoard,
+    player: Player,
     tape: &mut Tape<'a>,
     cpu: Cpu,
     event: &Event<'a>,
     number: u32,
-) -> Result<Machine<Recorder<MemBoard>>, AllocError>
-    requires power { IsTrue (state_of boards.old.start.now).powered }
+) -> Result<Player, AllocError>
+    requires power { IsTrue (state_of start.now).powered }
     requires writable { IsWritableEvent (event_from event.now) }
-    requires ready { IsTapeIn (length (state_of boards.old.start.now).content.flash) tape.old }
+    requires ready { IsTapeIn (length (state_of start.now).content.flash) tape.old }
     requires short { tape.old.done ≤ 262144 }
-    requires second { IsSecond (state_of boards.old.start.now).content
-        (moves_from tape.old.moves.items) boards.old.second }
-    requires play { (all : List EventView) × (left : List EventView) × IsPlay machine tape.old
-        (powerless (state_of boards.old.start.now).content cpu) all left number }
-    ensures ready { OnOk result
-        (IsTapeIn (length (state_of boards.old.start.now).content.flash) tape.new) }
-    ensures second { OnOk result (IsSecond (state_of boards.old.start.now).content
-        (moves_from tape.new.moves.items) boards.new.second) }
-    ensures start { boards.new.start ≡ boards.old.start }
+    requires kept { IsCheckpoint (state_of start.now).content (moves_from tape.old.moves.items)
+        player.kept }
+    requires play { (all : List EventView) × (left : List EventView)
+        × IsPlay player.machine tape.old (powerless (state_of start.now).content cpu) all left number }
+    ensures ready { OnOk result (IsTapeIn (length (state_of start.now).content.flash) tape.new) }
+    ensures kept { IfOk result (λ next. IsCheckpoint (state_of start.now).content
+        (moves_from tape.new.moves.items) next.kept) }
     ensures played { IfOk result (λ next. (all left : List EventView)
-        → IsPlay machine tape.old (powerless (state_of boards.old.start.now).content cpu) all
+        → IsPlay player.machine tape.old (powerless (state_of start.now).content cpu) all
         (event_from event.now ∷ left) number
-        → IsLong tape.new (powerless (state_of boards.old.start.now).content cpu) all
-        × (tape.new.done ≤ 262144 → IsPlay next tape.new
-        (powerless (state_of boards.old.start.now).content cpu) all left (number + 1))) }
+        → IsLong tape.new (powerless (state_of start.now).content cpu) all
+        × (tape.new.done ≤ 262144 → IsPlay next.machine tape.new
+        (powerless (state_of start.now).content cpu) all left (number + 1))) }
 {
-    let mut machine = machine;
+    let mut player = player;
     if let Some(cut) = armed_by(event) {
         tape.arm(cut)?;
-        return Ok(machine);
+        return Ok(player);
     }
-    if play(&mut machine, tape, event, number)? {
-        return Ok(machine);
+    if play(&mut player.machine, tape, event, number)? {
+        return Ok(player);
     }
-    let next = anew(alloc, boards, machine, &tape.moves, cpu)?;
+    let next = anew(alloc, start, player, &tape.moves, cpu)?;
     Ok(next)
 }
 
@@ -305,15 +313,17 @@ pub fn trace_on<'a>(
         (IsTraceOf (state_of board.now).content cpu (script_events script.now.bytes.now))) }
 {
     let mut tape = Tape::begin(alloc);
-    let mut boards = Boards::begin(board);
-    let mut machine = machine_of(alloc, board, cpu)?;
+    let mut player = Player {
+        machine: machine_of(alloc, board, cpu)?,
+        kept: None,
+    };
     let mut number = 0;
     for event in script.events() {
-        machine = follow(alloc, &mut boards, machine, &mut tape, cpu, &event, number)?;
+        player = follow(alloc, board, player, &mut tape, cpu, &event, number)?;
         if tape.done > STEP_LIMIT {
             return Ok(None);
         }
         number += 1;
     }
-    Ok(Some(tape.into_trace(board_of(machine))))
+    Ok(Some(tape.into_trace(board_of(player.machine))))
 }

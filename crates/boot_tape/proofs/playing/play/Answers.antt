@@ -1,4 +1,5 @@
 use Rattle.std.proofs.Common.{◌∙◌, ◌≡◌, ◌-◌, List, ap, length, drop, take, arith}
+use Rattle.std.proofs.lemmas.List.{take_rest}
 use Rattle.pico_board.specs.declared.Step.{Step}
 use Rattle.boot_script.specs.Events.{event_from}
 use Rattle.boot_machine.specs.Moves.{effect}
@@ -7,7 +8,7 @@ use Rattle.boot_tape.specs.declared.trace.Tape.{Tape}
 use Rattle.boot_tape.specs.CutMoves.{cut_moves}
 use Rattle.boot_tape.specs.Moving.{moves_from}
 use Rattle.boot_tape.specs.Playing.{told_of}
-use Rattle.boot_tape.proofs.PlayLemmas.{done-by, former-within, fresh-in, long-as, play-on, rest-is}
+use Rattle.boot_tape.proofs.PlayLemmas.{done-by, former-within, fresh-in, long-as, play-on}
 use Rattle.boot_tape.proofs.playing.play.Goals as goal
 
 pub slice_bounds-take_steps-count : goal.slice_bounds-take_steps-count
@@ -61,7 +62,7 @@ returns-clause-played c =
     play-on c.args.machine.now c.step.new.machine c.args.tape.now c.take_steps.new.self c.note.new.self m all left
     (event_from c.args.event.now) c.args.number c.in_ok-whole.whole fresh c.in_ok-came.came
     (length c.as_slice-moved.result.now) play c.requires.uncut c.in_ok-came.ensures
-    (rest-is former read ∙ (ap (λ k. drop k read) (ap (λ (xs : List Step). length xs) c.as_slice-former.ensures.value
+    (take_rest read former ∙ (ap (λ k. drop k read) (ap (λ (xs : List Step). length xs) c.as_slice-former.ensures.value
     ∙ ap (λ t. length t.steps.items) c.board.ensures)
     ∙ ap (drop (length c.args.machine.now.board.steps.items))
     (c.deref.ensures.value ∙ ap (λ t. t.steps.items) c.board-2.ensures))) c.in_ok-whole.ensures.taken c.requires.short

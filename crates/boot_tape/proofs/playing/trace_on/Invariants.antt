@@ -1,9 +1,9 @@
-use Rattle.std.proofs.Common.{◌≡◌, ◌+◌, ◌<◌, ◌≤◌, length}
+use Rattle.std.proofs.Common.{◌+◌, ◌<◌, ◌≤◌, length}
 use Rattle.pico_board.specs.MemBoard.{state_of}
 use Rattle.boot_script.specs.declared.limits.TheConstants.{RECORD_LIMIT}
 use Rattle.boot_script.specs.Scripts.{script_events}
 use Rattle.boot_machine.specs.Plays.{powerless}
-use Rattle.boot_tape.specs.Boards.{IsSecond}
+use Rattle.boot_tape.specs.Checkpoints.{IsCheckpoint}
 use Rattle.boot_tape.specs.Moving.{moves_from}
 use Rattle.boot_tape.specs.Playing.{IsPlay, IsTapeIn}
 use Rattle.boot_tape.proofs.playing.trace_on.Given as goal
@@ -13,9 +13,8 @@ abbrev pub invariant-loop-event : goal.invariant-loop-event
 invariant-loop-event l = record {
   ready : IsTapeIn (length (state_of l.board).content.flash) l.tape;
   short : l.tape.done ≤ 262144;
-  second : IsSecond (state_of l.board).content (moves_from l.tape.moves.items) l.boards.second;
-  start : l.boards.start.now ≡ l.board;
+  kept : IsCheckpoint (state_of l.board).content (moves_from l.tape.moves.items) l.player.kept;
   few : l.number + length l.event-iterator < RECORD_LIMIT;
-  play : IsPlay l.machine l.tape (powerless (state_of l.board).content l.cpu)
+  play : IsPlay l.player.machine l.tape (powerless (state_of l.board).content l.cpu)
       (script_events l.script.bytes.now) l.event-iterator l.number;
 }
