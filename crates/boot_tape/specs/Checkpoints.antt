@@ -6,7 +6,7 @@ use Rattle.boot_session.specs.Standing.{IsUnarmed}
 use Rattle.boot_tape.specs.declared.checkpoints.Checkpoint.{Checkpoint}
 use Rattle.boot_tape.specs.Moving.{MoveView, after_moves}
 
--- its board has power and no armed cut, and the content that the first of these moves leave from c on
+-- its board has power and no armed cut, and what the first of these moves leave from c on
 pub record HasFirstMoves (c : Content) (moves : List MoveView) (point : Checkpoint) : Type 0 where
   pub ready : IsUnarmed (state_of point.board)
   pub few : point.done ≤ length moves

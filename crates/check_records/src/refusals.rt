@@ -22,7 +22,7 @@ pub(crate) struct Refusals {
     pub found: Option<Refused>,
 }
 
-/// Whether the command only reads.
+/// Whether a command with this id is answered with bytes: a read, an info command, an OTP read.
 fn has_reply(id: u8) -> bool
     ensures { result ≡ has_reply id }
 {
